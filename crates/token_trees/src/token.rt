@@ -1,0 +1,81 @@
+//! The token trees. A span names a file and a range of byte places in it; `lo` is where it begins, `hi` where it ends.
+
+/// Where a token stands: the bytes from `lo` to `hi` of a file.
+#[derive(Clone, Copy, PartialEq, Eq)]
+pub struct Span {
+    pub file: u32,
+    pub lo: u32,
+    pub hi: u32,
+}
+
+/// The brackets round a group. `None` is a group that no bracket shows.
+#[derive(Clone, Copy, PartialEq, Eq)]
+pub enum Delimiter {
+    Parenthesis,
+    Brace,
+    Bracket,
+    None,
+}
+
+/// Whether a punctuation character belongs to the token after it.
+#[derive(Clone, Copy, PartialEq, Eq)]
+pub enum Spacing {
+    Alone,
+    Joint,
+}
+
+/// An identifier or a keyword, with `r#` where it was written so.
+#[derive(Drop)]
+pub struct Ident {
+    pub text: String,
+    pub span: Span,
+}
+
+/// One punctuation character.
+#[derive(Clone, Copy)]
+pub struct Punct {
+    pub ch: char,
+    pub spacing: Spacing,
+    pub span: Span,
+}
+
+/// What a literal is: a string without its quotes and escapes, decimal digits with `_` and what belongs to them, or another.
+#[derive(Drop)]
+pub enum Lit {
+    Str { value: String, suffix: String },
+    Int { digits: String },
+    Other { text: String },
+}
+
+/// A literal with its place.
+#[derive(Drop)]
+pub struct Literal {
+    pub lit: Lit,
+    pub span: Span,
+}
+
+/// Token trees between two brackets.
+#[cycle(tree)]
+#[derive(Drop)]
+pub struct Group {
+    pub delimiter: Delimiter,
+    pub stream: TokenStream,
+    pub span: Span,
+}
+
+/// A token, or a group of them.
+#[cycle(tree)]
+#[derive(Drop)]
+pub enum TokenTree {
+    Ident(Ident),
+    Punct(Punct),
+    Literal(Literal),
+    Group(Group),
+}
+
+/// Token trees in order.
+#[cycle(tree)]
+#[derive(Drop)]
+pub struct TokenStream {
+    pub(crate) trees: Vec<TokenTree>,
+}
