@@ -1,0 +1,4 @@
+pub mod Syntax
+pub mod View
+pub mod Item
+pub mod Metas
