@@ -1,0 +1,25 @@
+//! What JSON schemas are, how a value is read as a schema document, and which values a document admits. The definitions stand in specs/.
+#![tactic(auto)]
+
+/// A name that the keyword `type` may give (JSON Schema Draft 7 validation, 6.1.1).
+#[derive(Clone, Copy, PartialEq, Eq)]
+pub enum InstanceType {
+    Null,
+    Boolean,
+    Object,
+    Array,
+    Number,
+    Text,
+    Integer,
+}
+
+/// The formats of texts that are judged. `DateTime` is `date-time`; `Ip` is either of the two after it.
+#[derive(Clone, Copy, PartialEq, Eq)]
+pub enum Format {
+    Uuid,
+    Date,
+    DateTime,
+    Ip,
+    Ipv4,
+    Ipv6,
+}
