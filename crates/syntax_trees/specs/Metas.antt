@@ -4,6 +4,9 @@ use Rattle.token_trees.specs.declared.token.Span.{Span}
 use Rattle.token_trees.specs.declared.token.Spacing.{Spacing}
 use Rattle.token_trees.specs.declared.token.Spacing.TheVariants.{Alone, Joint}
 use Rattle.token_trees.specs.declared.token.Delimiter.TheVariants.{Parenthesis, Bracket, Brace, None as Bare}
+use Rattle.syntax_trees.specs.declared.cursor.SyntaxKind.{SyntaxKind}
+use Rattle.syntax_trees.specs.declared.cursor.SyntaxKind.TheVariants.{ExpectedEq, ExpectedValue}
+use Rattle.syntax_trees.specs.declared.cursor.SyntaxError.{SyntaxError}
 use Rattle.token_trees.specs.Token.{Tok, word, mark, fixed, group, list_of, span_of}
 
 abbrev pub is_sign : ℕ → Tok → Bool
@@ -38,6 +41,10 @@ colons_next [] = false
 colons_next (t ∷ []) = false
 colons_next (t ∷ u ∷ ts) = is_joint_sign 58 t && is_sign 58 u
 
+abbrev pub rest_of : List Tok → List Tok
+rest_of [] = []
+rest_of (t ∷ ts) = ts
+
 -- how many tokens in front are names with `::` between two; none where a name is missing
 abbrev pub names_len : List Tok → Option ℕ
 names_len [] = None
@@ -45,18 +52,14 @@ names_len (t ∷ []) = cond (is_word t) (Some 1) None
 names_len (t ∷ u ∷ []) = cond (is_word t) (Some 1) None
 names_len (t ∷ u ∷ v ∷ ts) = cond (is_word t) (cond (colons_next (u ∷ v ∷ ts)) (option_map (λ n. n + 3) (names_len ts)) (Some 1)) None
 
--- the tokens from the place where a name is missing
+-- where a name is missing, the tokens from its place on
 abbrev pub no_name : List Tok → List Tok
 no_name [] = []
-no_name (t ∷ []) = t ∷ []
-no_name (t ∷ u ∷ []) = t ∷ u ∷ []
+no_name (t ∷ []) = cond (is_word t) [] (t ∷ [])
+no_name (t ∷ u ∷ []) = cond (is_word t) [] (t ∷ u ∷ [])
 no_name (t ∷ u ∷ v ∷ ts) = cond (is_word t) (no_name ts) (t ∷ u ∷ v ∷ ts)
 
-abbrev pub rest_of : List Tok → List Tok
-rest_of [] = []
-rest_of (t ∷ ts) = ts
-
--- the same of a path, which may begin with `::`
+-- the same of a path: names with `::` between two, and maybe one `::` before the first
 abbrev pub path_len : List Tok → Option ℕ
 path_len ts = cond (colons_next ts) (option_map (λ n. n + 2) (names_len (rest_of (rest_of ts)))) (names_len ts)
 
@@ -71,6 +74,19 @@ before_comma (t ∷ ts) = cond (is_sign 44 t) [] (t ∷ before_comma ts)
 abbrev pub from_comma : List Tok → List Tok
 from_comma [] = []
 from_comma (t ∷ ts) = cond (is_sign 44 t) (t ∷ ts) (from_comma ts)
+
+-- whether a meta ends here: at a comma, or where the tokens end
+abbrev pub ends_meta : List Tok → Bool
+ends_meta [] = true
+ends_meta (t ∷ ts) = is_sign 44 t
+
+abbrev pub not_empty : List Tok → Option (List Tok)
+not_empty [] = None
+not_empty (t ∷ ts) = Some (t ∷ ts)
+
+-- the tokens of the value after `=`, one at least
+abbrev pub value_next : List Tok → Option (List Tok)
+value_next ts = cond (sign_next 61 ts) (not_empty (before_comma (rest_of ts))) None
 
 -- the tokens of a group in parentheses
 abbrev pub in_parens : Tok → Option (List Tok)
@@ -90,3 +106,11 @@ parens_next (t ∷ ts) = in_parens t
 abbrev pub place : Span → List Tok → Span
 place at [] = at
 place at (t ∷ ts) = span_of t
+
+-- the error of syntax at that place
+abbrev pub expected : SyntaxKind → Span → List Tok → SyntaxError
+expected k at ts = record { kind = k; span = place at ts }
+
+-- what is wrong where no value stands next
+abbrev pub no_value : Span → List Tok → SyntaxError
+no_value at ts = cond (sign_next 61 ts) (expected ExpectedValue at (rest_of ts)) (expected ExpectedEq at ts)

@@ -7,6 +7,7 @@ mod symbol;
 mod token;
 
 pub use copy::respan;
+pub use stream::span_of_trees;
 pub use symbol::Symbol;
 pub use token::{
     Delimiter, Group, Ident, Lit, Literal, Punct, Spacing, Span, TokenStream, TokenTree,
