@@ -1,0 +1,9 @@
+pub mod Unfold
+pub mod Places
+pub mod Unknown
+pub mod Stand
+pub mod Spare
+pub mod Guarded
+pub mod Decided
+pub mod Mapped
+pub mod Rising

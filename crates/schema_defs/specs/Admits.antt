@@ -1,9 +1,9 @@
 -- Which values a schema of a document admits.
-use Rattle.std.specs.Prelude.{ℕ, zero, suc, List, [], ◌∷◌, ◌++◌, length, drop, Bool, true, false, Option, Some, None, option_map, bytes_eq, nat_eq, codes, if◌then◌else◌, ◌≡◌, refl}
+use Rattle.std.specs.Prelude.{ℕ, zero, suc, List, [], ◌∷◌, length, drop, Bool, false, Option, Some, None, option_map, bytes_eq, nat_eq, codes, if◌then◌else◌, ◌≡◌, refl}
 use Rattle.std.specs.List.{starts_with}
 use Rattle.json_value.specs.Value as value
 use Rattle.json_value.specs.Value.{Value, Items, Members, null, number, fraction, text, list, item, no_items, member, no_members}
-use Rattle.schema_defs.specs.Location.{Location, unescaped}
+use Rattle.schema_defs.specs.Location.{Step, Location, unescaped}
 use Rattle.schema_defs.specs.Texts.{Relations}
 use Rattle.schema_defs.specs.Schema.{Schema, Definition, Document}
 use Rattle.schema_defs.specs.Layer.{Judge, Parts, judge}
@@ -37,9 +37,12 @@ is_root_reference q = bytes_eq q (codes "#")
 abbrev pub target : Document → List ℕ → Option Schema
 target d q = if is_root_reference q then Some d.root else option_map (λ e. e.body) (defined_as d (definition_name q))
 
--- where a definition stands
+-- the keyword that a definition stands under, and where it stands
+abbrev pub definition_word : Bool → Step
+definition_word under_defs = if under_defs then codes "$defs" else codes "definitions"
+
 abbrev pub definition_location : Definition → Location
-definition_location e = (if e.under_defs then codes "$defs" else codes "definitions") ∷ e.name ∷ []
+definition_location e = definition_word e.under_defs ∷ e.name ∷ []
 
 abbrev pub target_location : Document → List ℕ → Option Location
 target_location d q = if is_root_reference q then Some [] else option_map definition_location (defined_as d (definition_name q))

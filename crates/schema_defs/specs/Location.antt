@@ -1,5 +1,6 @@
 -- Where a schema stands: the steps from the document's root, and their text (RFC 6901 in a fragment, without percent signs).
-use Rattle.std.specs.Prelude.{ℕ, List, [], ◌∷◌, ◌++◌, ◌==◌, codes, decimal, if◌then◌else◌}
+use Rattle.std.specs.Int.Digits.{digits_of}
+use Rattle.std.specs.Prelude.{ℕ, zero, suc, ◌+◌, map, List, [], ◌∷◌, ◌++◌, ◌==◌, if◌then◌else◌}
 
 -- a keyword, a member name, or the decimal digits of a place
 abbrev pub Step : Type 0
@@ -8,8 +9,10 @@ Step = List ℕ
 abbrev pub Location : Type 0
 Location = List Step
 
-abbrev pub place : ℕ → Step
-place i = decimal i
+-- the decimal digits of a place, however great
+unfoldable pub place : ℕ → Step
+place zero = 48 ∷ []
+place (suc i) = map (λ d. 48 + d) (digits_of 10 (suc i))
 
 -- `~` is written `~0`, and `/` is written `~1`
 abbrev pub escaped : List ℕ → List ℕ

@@ -1,5 +1,5 @@
 -- What a judge of texts answers. The pattern comes first, then the text.
-use Rattle.std.specs.Prelude.{◌≡◌, ℕ, List, Bool, true, IsTrue}
+use Rattle.std.specs.Prelude.{ℕ, List, Bool, IsTrue}
 use Rattle.schema_defs.specs.declared.Format.{Format}
 use Rattle.schema_defs.specs.declared.Format.TheVariants.{Ip, Ipv4, Ipv6}
 

@@ -1,6 +1,9 @@
 //! What JSON schemas are, how a value is read as a schema document, and which values a document admits. The definitions stand in specs/.
 #![tactic(auto)]
 
+pub mod examples;
+pub mod laws;
+
 /// A name that the keyword `type` may give (JSON Schema Draft 7 validation, 6.1.1).
 #[derive(Clone, Copy, PartialEq, Eq)]
 pub enum InstanceType {
