@@ -1,0 +1,16 @@
+pub mod Types
+pub mod Model
+pub mod Layer
+pub mod Reads
+pub mod Settled
+pub mod Refusals
+pub mod Rows
+pub mod Reach
+pub mod ItemRows
+pub mod SettledRows
+pub mod Flat
+pub mod Examples
+pub mod ReachExamples
+pub mod RefusalExamples
+pub mod SettledExamples
+pub mod Spellings
