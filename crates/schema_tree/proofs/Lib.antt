@@ -1,0 +1,7 @@
+pub mod Escapes
+pub mod Walks
+pub mod Names
+pub mod Listed
+pub mod Fields
+pub mod Counts
+pub mod NoFloat

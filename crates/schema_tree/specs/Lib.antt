@@ -1,0 +1,6 @@
+pub mod Texts
+pub mod Walk
+pub mod Fault
+pub mod Form
+pub mod FormView
+pub mod Numbers
