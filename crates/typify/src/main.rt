@@ -1,0 +1,49 @@
+//! The program `typify`: one JSON object with a schema and a list of values on standard input, the page on standard
+//! output, and the status of the run as the process's.
+#![tactic(auto)]
+
+use schema_tree::PlainTexts;
+use std::env;
+use std::process::ExitCode;
+use typify_run::{StdSink, StdSource, run};
+
+const HELP: &str = "typify check DEPTH
+
+Reads one JSON object with exactly the members `schema`, a JSON Schema, and `values`, a list, from standard input
+(at most 16,777,216 bytes), and prints the number of items that the schema compiles to, a line for each note, and a
+line for each value: taken, with the value written back, or refused, with the place. DEPTH is from 1 to 512.
+
+Status: 0 a page was printed, 1 one line names a fault, 2 other words, 3 the input is too long or isn't that object,
+4 reading failed, 5 writing failed, 6 memory ran out.";
+
+const VERSION: &str = "typify 0.8.0";
+
+fn main(rt: HostRuntime) -> ExitCode {
+    let alloc = rt.alloc();
+    let words = match env::args(&rt) {
+        Ok(args) => args.skip(1).collect::<Vec<String>>(alloc),
+        Err(error) if error.kind() == std::io::ErrorKind::OutOfMemory => return ExitCode::from(6),
+        Err(_) => return ExitCode::from(2),
+    };
+    let Ok(words) = words else {
+        return ExitCode::from(6);
+    };
+    if let [word] = words.as_slice() {
+        let text = match word.as_str() {
+            "--help" => Some(HELP),
+            "--version" => Some(VERSION),
+            _ => None,
+        };
+        if let Some(text) = text {
+            return match println!(rt; "{text}") {
+                Ok(()) => ExitCode::SUCCESS,
+                Err(_) => ExitCode::from(5),
+            };
+        }
+    }
+    let mut source = StdSource::new(&rt);
+    let mut sink = StdSink::new(&rt);
+    let mut texts = PlainTexts::new(alloc);
+    let outcome = run(alloc, words.as_slice(), &mut source, &mut sink, &mut texts);
+    ExitCode::from(outcome.status)
+}

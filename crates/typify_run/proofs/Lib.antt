@@ -1,0 +1,14 @@
+pub mod Admission
+pub mod Documents
+pub mod Rolls
+pub mod Verdicts
+pub mod Agreement
+pub mod Names
+pub mod Places
+pub mod Members
+pub mod Ordered
+pub mod Emitted
+pub mod PlainTypes
+pub mod Judged
+pub mod Reported
+pub mod Inputs

@@ -1,0 +1,86 @@
+-- What a report says of a document: the items are read back without a diagnostic, the containers take what the document admits, and the verdicts say so.
+use Rattle.std.specs.Prelude.{◌≡◌, ℕ, List, [], ◌∷◌, map, Bool, true, false, Some, ⊤}
+use Rattle.std.specs.List.{AllByRecursion}
+use Rattle.token_trees.specs.Token.{Name}
+use Rattle.syntax_trees.specs.Item.{ItemD, item_view}
+use Rattle.syntax_trees.specs.View.{ty}
+use Rattle.serde_json.specs.Data.{Data}
+use Rattle.json_value.specs.Value.{Value, IsSmall}
+use Rattle.json_value.specs.View.{value_of}
+use Rattle.schema_defs.specs.Location.{Location}
+use Rattle.schema_defs.specs.Texts.{Relations}
+use Rattle.schema_defs.specs.Schema.{Document}
+use Rattle.schema_defs.specs.Admits.{admits}
+use Rattle.schema_defs.specs.Read.{document_of}
+use Rattle.derive_attr.specs.declared.rename.RenameRule.{RenameRule}
+use Rattle.derive_attr.specs.declared.derive.Derive.{Derive}
+use Rattle.derive_ast.specs.Model.{diagnostics_of}
+use Rattle.model_defs.specs.Types.{TypeModel, type_of}
+use Rattle.model_defs.specs.Model.{ContainerModel}
+use Rattle.model_defs.specs.Reads.{reads}
+use Rattle.model_defs.specs.Refusals.{refused_at}
+use Rattle.typify_run.specs.Model.{item_model, conversions_view}
+use Rattle.typify_run.specs.Verdict.{VerdictD, taken, refused, verdict_view}
+use Rattle.typify_run.specs.declared.note.Way.{Way}
+use Rattle.typify_run.specs.declared.note.Way.TheVariants.{Narrowed, Widened}
+use Rattle.typify_run.specs.declared.note.Note.{Note}
+use Rattle.typify_run.specs.declared.report.Report.{Report}
+
+-- neither derive has a diagnostic, whatever serde's own module is called and however names are written
+abbrev pub IsClean : ItemD → Type 0
+IsClean i = (variant_name field_name : RenameRule → List ℕ → List ℕ) (private : Name) (derive : Derive) → diagnostics_of variant_name field_name private i derive ≡ []
+
+abbrev pub items_of : Report → List ItemD
+items_of r = map item_view r.items.items
+
+abbrev pub models_of : Report → List ContainerModel
+models_of r = map item_model (items_of r)
+
+abbrev pub root_of : Report → TypeModel
+root_of r = type_of (ty r.root)
+
+-- whether the containers read the value
+abbrev pub report_reads : Relations → Report → Value → Bool
+report_reads texts r v = reads (models_of r) (conversions_view r.conversions) texts (root_of r) v
+
+-- where reading stops in a value that they don't read
+abbrev pub report_refuses : Relations → Report → Value → Location
+report_refuses texts r v = refused_at (models_of r) (conversions_view r.conversions) texts (root_of r) v
+
+abbrev pub document_admits : Relations → Document → Value → Bool
+document_admits texts d v = admits texts d v d.root
+
+abbrev pub HasNone : (Way → Type 0) → List Note → Type 0
+HasNone Is ns = AllByRecursion (λ n. Is n.way → ⊥) ns
+
+abbrev pub IsNarrowed : Way → Type 0
+IsNarrowed w = w ≡ Narrowed
+
+abbrev pub IsWidened : Way → Type 0
+IsWidened w = w ≡ Widened
+
+-- taken exactly where it is read, and then written as it is; else refused where reading stops
+abbrev pub IsJudged : (Value → Bool) → (Value → Location) → Data → VerdictD → Type 0
+IsJudged takes stops d (taken w) = (takes (value_of d) ≡ true) × (w ≡ d)
+IsJudged takes stops d (refused l) = (takes (value_of d) ≡ false) × (l ≡ stops (value_of d))
+
+-- a verdict for each value
+abbrev pub AreJudged : (Value → Bool) → (Value → Location) → List Data → List VerdictD → Type 0
+AreJudged takes stops [] [] = ⊤
+AreJudged takes stops (d ∷ ds) (v ∷ vs) = IsJudged takes stops d v × AreJudged takes stops ds vs
+AreJudged takes stops [] (v ∷ vs) = ⊥
+AreJudged takes stops (d ∷ ds) [] = ⊥
+
+pub record IsReportOf (texts : Relations) (schema : Value) (values : List Data) (r : Report) : Type 0 where
+  -- the schema is a document
+  pub document : Document
+  pub is_read : document_of schema ≡ Some document
+  -- the items have no diagnostic
+  pub clean : AllByRecursion IsClean (items_of r)
+  -- without notes the containers read exactly the small values that the document admits, listed or not
+  pub exact : r.notes.items ≡ [] → (v : Value) → IsSmall v → report_reads texts r v ≡ document_admits texts document v
+  -- without a note that they are narrower, they read each that is admitted; without one that they are wider, those alone
+  pub not_narrower : HasNone IsNarrowed r.notes.items → (v : Value) → IsSmall v → document_admits texts document v ≡ true → report_reads texts r v ≡ true
+  pub not_wider : HasNone IsWidened r.notes.items → (v : Value) → IsSmall v → report_reads texts r v ≡ true → document_admits texts document v ≡ true
+  -- the verdicts are those of the containers
+  pub verdicts : AreJudged (report_reads texts r) (report_refuses texts r) values (map verdict_view r.verdicts.items)

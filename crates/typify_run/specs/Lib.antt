@@ -1,0 +1,14 @@
+pub mod Flat
+pub mod Item
+pub mod Words
+pub mod Input
+pub mod Note
+pub mod Verdict
+pub mod Page
+pub mod Place
+pub mod Reader
+pub mod Model
+pub mod Headline
+pub mod Kind
+pub mod Examine
+pub mod Outcome

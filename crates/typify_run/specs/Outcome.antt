@@ -1,0 +1,64 @@
+-- What each status of a run says: of the input, of the bytes that were written, and of what is carried.
+use Rattle.std.specs.Prelude.{◌≡◌, ◌⊎◌, ℕ, zero, suc, List, [], ◌∷◌, false, Option, Some, None}
+use Rattle.serde_json.specs.Data.{Data, Items, no_items, item}
+use Rattle.run_io.specs.Bytes.{Appends, AppendsPrefix}
+use Rattle.json_value.specs.View.{value_of}
+use Rattle.schema_defs.specs.Texts.{Relations}
+use Rattle.schema_tree.specs.Fault.{fault_view, fault_line}
+use Rattle.schema_tree.specs.declared.fault.Fault.{Fault}
+use Rattle.typify_run.specs.Input.{Parts, IsInput}
+use Rattle.typify_run.specs.Headline.{IsReportOf}
+use Rattle.typify_run.specs.Examine.{is_examined, not_yet}
+use Rattle.typify_run.specs.Page.{page}
+use Rattle.typify_run.specs.declared.report.Report.{Report}
+
+abbrev pub data_of : Items → List Data
+data_of no_items = []
+data_of (item d ds) = d ∷ data_of ds
+
+-- the report is one of the input's schema and values
+abbrev pub IsReported : Relations → Parts → Report → Type 0
+IsReported texts parts r = IsReportOf texts (value_of parts.schema) (data_of parts.values) r
+
+-- the fault has its cause: the schema, or a value, is of no form that is built
+abbrev pub IsCaused : Parts → Fault → Type 0
+IsCaused parts f = (fault_view f ≡ not_yet) × (is_examined (value_of parts.schema) (data_of parts.values) ≡ false)
+
+abbrev pub line_of : Fault → List ℕ
+line_of f = fault_line (fault_view f)
+
+-- want of memory: nothing was printed yet, or a front of what was to be printed
+abbrev pub IsCutOff : Relations → Parts → Option (List ℕ) → Option (List ℕ) → Type 0
+IsCutOff texts parts before after = (after ≡ before) ⊎ (((r : Report) × IsReported texts parts r × AppendsPrefix before after (page r)) ⊎ ((f : Fault) × IsCaused parts f × AppendsPrefix before after (line_of f)))
+
+-- by status, and what is carried, for an input of these parts: the bytes written before and after
+abbrev pub Answers : Relations → Parts → Option (List ℕ) → Option (List ℕ) → ℕ → Option Report → Option Fault → Type 0
+Answers texts parts before after zero (Some r) None = IsReported texts parts r × Appends before after (page r)
+Answers texts parts before after (suc zero) None (Some f) = IsCaused parts f × Appends before after (line_of f)
+Answers texts parts before after (suc (suc (suc (suc (suc zero))))) (Some r) None = IsReported texts parts r × AppendsPrefix before after (page r)
+Answers texts parts before after (suc (suc (suc (suc (suc zero))))) None (Some f) = IsCaused parts f × AppendsPrefix before after (line_of f)
+Answers texts parts before after (suc (suc (suc (suc (suc (suc zero)))))) None None = IsCutOff texts parts before after
+Answers _ _ _ _ _ _ _ = ⊥
+
+-- nothing is carried, and nothing was written
+abbrev pub IsBare : Option (List ℕ) → Option (List ℕ) → Option Report → Option Fault → Type 0
+IsBare before after report fault = (after ≡ before) × (report ≡ None) × (fault ≡ None)
+
+-- the bytes are no input
+abbrev pub IsNoInput : List ℕ → Type 0
+IsNoInput bytes = (parts : Parts) → IsInput bytes parts → ⊥
+
+-- how a run on these bytes ends: they are no input, or memory ran out, or by what the input's parts say
+abbrev pub Ends : Relations → List ℕ → Option (List ℕ) → Option (List ℕ) → ℕ → Option Report → Option Fault → Type 0
+Ends texts bytes before after status report fault =
+    ((status ≡ 3) × IsNoInput bytes × IsBare before after report fault)
+    ⊎ (((status ≡ 6) × IsBare before after report fault)
+    ⊎ ((parts : Parts) × IsInput bytes parts × Answers texts parts before after status report fault))
+
+-- the same, where reading may have failed
+abbrev pub EndsReading : Relations → List ℕ → Option (List ℕ) → Option (List ℕ) → ℕ → Option Report → Option Fault → Type 0
+EndsReading texts bytes before after status report fault = ((status ≡ 4) × IsBare before after report fault) ⊎ Ends texts bytes before after status report fault
+
+-- statuses at which the whole input was read
+abbrev pub IsPrinting : ℕ → Type 0
+IsPrinting status = (status ≡ 0) ⊎ ((status ≡ 1) ⊎ (status ≡ 5))

@@ -1,0 +1,39 @@
+-- What a struct of plain fields is to its reader.
+use Rattle.std.specs.Prelude.{◌≡◌, List, [], ◌∷◌, map, Bool, Option, Some, None, string_bytes, ⊤}
+use Rattle.serde_json.specs.Data.{Data}
+use Rattle.schema_defs.specs.Location.{Location}
+use Rattle.json_value.specs.View.{value_of}
+use Rattle.model_defs.specs.Flat.{Flat, NamesApart}
+use Rattle.typify_run.specs.Place.{place_of}
+use Rattle.typify_run.specs.Flat.{kind_type}
+use Rattle.schema_tree.specs.FormView.{kind_view}
+use Rattle.typify_run.specs.Verdict.{VerdictD, taken, refused}
+use Rattle.typify_run.specs.declared.judge.flat.FieldReader.{FieldReader}
+use Rattle.typify_run.specs.declared.judge.Reader.{Reader}
+
+abbrev pub field_flat : FieldReader → Flat
+field_flat f = (string_bytes f.name, kind_type (kind_view f.kind))
+
+abbrev pub flats_view : List FieldReader → List Flat
+flats_view fs = map field_flat fs
+
+-- a value without a place where reading stops is taken as it is
+abbrev pub verdict_at : Option Location → Data → VerdictD
+verdict_at None d = taken d
+verdict_at (Some l) d = refused l
+
+abbrev pub reader_closed : Reader → Bool
+reader_closed r = r.closed
+
+abbrev pub reader_flats : Reader → List Flat
+reader_flats r = flats_view r.fields.items
+
+-- the verdict on a value, whose members' names differ
+abbrev pub IsFlatJudged : Bool → List Flat → Data → VerdictD → Type 0
+IsFlatJudged closed fs d v = NamesApart (value_of d) × (v ≡ verdict_at (place_of closed fs (value_of d)) d)
+
+abbrev pub AreFlatJudged : Bool → List Flat → List Data → List VerdictD → Type 0
+AreFlatJudged closed fs [] [] = ⊤
+AreFlatJudged closed fs (d ∷ ds) (v ∷ vs) = IsFlatJudged closed fs d v × AreFlatJudged closed fs ds vs
+AreFlatJudged closed fs [] (v ∷ vs) = ⊥
+AreFlatJudged closed fs (d ∷ ds) [] = ⊥

@@ -1,0 +1,25 @@
+//! Schema documents examined.
+#![tactic(auto)]
+
+mod examination;
+mod input;
+mod item;
+mod judge;
+mod note;
+mod outcome;
+mod report;
+#[cfg(test)]
+mod tests;
+mod top;
+mod words;
+
+pub use examination::examine;
+pub use judge::Verdict;
+pub use note::{Note, NoteKind, Way};
+pub use outcome::Outcome;
+pub use report::Report;
+pub use run_io::{
+    Failed, MemorySink, MemorySource, PlainSink, PlainSource, Sink, SinkFault, Source, StdSink,
+    StdSource, put,
+};
+pub use top::run;

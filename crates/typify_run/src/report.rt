@@ -1,0 +1,112 @@
+//! What an examination gives, and its page.
+ghost use Rattle.std.specs.Prelude.{◌≡◌, ◌++◌, OnOk, IfOk, string_bytes, map, vec_len, length, false, decimal};
+ghost use Rattle.serde_json.specs.Written.{has_float};
+ghost use Rattle.serde_json.specs.View.{view};
+ghost use Rattle.typify_run.specs.Verdict.{verdict_view, taken, refused};
+ghost use Rattle.typify_run.specs.Page.{page as page_of, note_line as note_line_of, notes_text, value_line as value_line_of, verdict_line as verdict_line_of, verdict_lines, IsPrintable, ArePrintable};
+
+use crate::judge::Verdict;
+use crate::note::Note;
+use schema_tree::{Conversions, Location, json_string};
+use serde_json::Value;
+use std::alloc::{AllocError, Global};
+use syntax_trees::{DeriveInput, Ty};
+
+/// The items that stand for a schema, with the table of what attributes don't say, the type of the root, the notes,
+/// and a verdict for each listed value.
+#[derive(Drop)]
+pub struct Report {
+    pub items: Vec<DeriveInput>,
+    pub conversions: Conversions,
+    pub root: Ty,
+    pub notes: Vec<Note>,
+    pub verdicts: Vec<Verdict>,
+}
+
+fn note_line(alloc: Global, note: &Note) -> Result<String, AllocError>
+    ensures { IfOk result (λ s. string_bytes s ≡ note_line_of note.now) }
+{
+    let way = note.way.text();
+    let kind = note.kind.text();
+    let text = note.path.text(alloc)?;
+    let path = json_string(alloc, &text)?;
+    format!(in alloc; "note {way} {kind} {path}\n")
+}
+
+// `value`, a number, what is said of it, and a line feed.
+fn value_line(alloc: Global, index: usize, said: &str, text: &str) -> Result<String, AllocError>
+    ensures { IfOk result (λ s. string_bytes s ≡ value_line_of index said.now text.now) }
+{
+    let number = index.to_string(alloc)?;
+    let mut line = String::from_str(alloc, "value ")?;
+    line.push_str(&number)?;
+    line.push_str(said)?;
+    line.push_str(text)?;
+    line.push_str("\n")?;
+    Ok(line)
+}
+
+fn taken_line(alloc: Global, index: usize, written: &Value) -> Result<String, AllocError>
+    requires { has_float (view written.now) ≡ false }
+    ensures { IfOk result (λ s. string_bytes s ≡ verdict_line_of index (taken (view written.now))) }
+{
+    let json = written.to_string(alloc)?;
+    value_line(alloc, index, " taken ", &json)
+}
+
+fn refused_line(alloc: Global, index: usize, path: &Location) -> Result<String, AllocError>
+    ensures { IfOk result (λ s. string_bytes s ≡ verdict_line_of index (refused path.now)) }
+{
+    let text = path.text(alloc)?;
+    let json = json_string(alloc, &text)?;
+    value_line(alloc, index, " refused ", &json)
+}
+
+// The line of the verdict of that number.
+#[tactic(auto, using(crate::proofs::Verdicts::taken_is, crate::proofs::Verdicts::refused_is))]
+fn verdict_line(alloc: Global, index: usize, verdict: &Verdict) -> Result<String, AllocError>
+    requires { IsPrintable (verdict_view verdict.now) }
+    ensures { IfOk result (λ s. string_bytes s ≡ verdict_line_of index (verdict_view verdict.now)) }
+{
+    if let Some(written) = verdict.taken() {
+        return taken_line(alloc, index, written);
+    }
+    match verdict.refused() {
+        Some(path) => refused_line(alloc, index, path),
+        None => Ok(String::new(alloc)),
+    }
+}
+
+fn push_notes(out: &mut String, alloc: Global, notes: &[Note]) -> Result<(), AllocError>
+    ensures { OnOk result (string_bytes out.new ≡ string_bytes out.old ++ notes_text notes.now) }
+{
+    for note in notes {
+        out.push_str(&note_line(alloc, note)?)?;
+    }
+    Ok(())
+}
+
+fn push_verdicts(out: &mut String, alloc: Global, verdicts: &[Verdict]) -> Result<(), AllocError>
+    requires { ArePrintable (map verdict_view verdicts.now) }
+    ensures { OnOk result (string_bytes out.new ≡ string_bytes out.old ++ verdict_lines 0 (map verdict_view verdicts.now)) }
+{
+    for (index, verdict) in verdicts.iter().enumerate() {
+        out.push_str(&verdict_line(alloc, index, verdict)?)?;
+    }
+    Ok(())
+}
+
+impl Report {
+    /// The page: the number of items, a line for each note and each verdict, and `end`.
+    pub(crate) fn page(&self, alloc: Global) -> Result<String, AllocError>
+        requires { ArePrintable (map verdict_view self.now.verdicts.items) }
+        ensures { IfOk result (λ s. string_bytes s ≡ page_of self.now) }
+    {
+        let count = self.items.len();
+        let mut page = format!(in alloc; "items {count}\n")?;
+        push_notes(&mut page, alloc, &self.notes)?;
+        push_verdicts(&mut page, alloc, &self.verdicts)?;
+        page.push_str("end\n")?;
+        Ok(page)
+    }
+}

@@ -1,0 +1,164 @@
+//! The run of the program, over any source, sink and judge of texts.
+ghost use Rattle.std.specs.Prelude.{◌≡◌, ◌≤◌, ◌↔◌, ℕ, List, [], map, length, Some, None, IsSome, IsTrue, string_bytes};
+ghost use Rattle.serde_json.specs.View.{view};
+ghost use Rattle.run_io.specs.Bytes.{Rises};
+ghost use Rattle.schema_defs.specs.Texts.{Relations};
+ghost use Rattle.schema_tree.specs.Fault.{fault_view, memory};
+ghost use Rattle.typify_run.specs.Input.{Parts, limit};
+ghost use Rattle.typify_run.specs.Outcome.{Answers, Ends, EndsReading, IsBare, IsCaused, IsPrinting, IsReported, data_of};
+ghost use Rattle.typify_run.specs.Page.{ArePrintable};
+ghost use Rattle.typify_run.specs.Verdict.{verdict_view};
+ghost use Rattle.typify_run.specs.Words.{check_depth};
+
+use crate::examination::examine;
+use crate::input::input_parts;
+use crate::outcome::Outcome;
+use crate::report::Report;
+use crate::words::depth_of_words;
+use run_io::{InputFault, Sink, SinkFault, Source, put, read_input};
+use schema_tree::{Fault, Texts};
+use serde_json::Value;
+use std::alloc::Global;
+
+// The report printed.
+fn print_report<K: Sink>(alloc: Global, report: Report, sink: &mut K) -> Outcome
+    requires { ArePrintable (map verdict_view report.verdicts.items) }
+    ensures answer { (texts : Relations) (parts : Parts) → IsReported texts parts report → Answers texts parts (K.written sink.old) (K.written sink.new) result.status result.report result.fault }
+    ensures write_fault { result.status ≡ 5 → Rises (K.faults sink.old) (K.faults sink.new) }
+    ensures kept { K.faults sink.old ≤ K.faults sink.new }
+{
+    let Ok(page) = report.page(alloc) else {
+        return Outcome::bare(6);
+    };
+    match put(sink, page.as_bytes()) {
+        Ok(()) => Outcome {
+            status: 0,
+            report: Some(report),
+            fault: None,
+        },
+        Err(SinkFault::Failed) => Outcome {
+            status: 5,
+            report: Some(report),
+            fault: None,
+        },
+        Err(SinkFault::Memory) => Outcome::bare(6),
+    }
+}
+
+// Whether memory ran out.
+fn is_memory(fault: &Fault) -> bool
+    ensures yes { IsTrue result → fault_view fault.now ≡ memory }
+    ensures no { fault_view fault.now ≡ memory → IsTrue result }
+{
+    match fault {
+        Fault::Memory => true,
+        _ => false,
+    }
+}
+
+// The line of a fault printed.
+fn print_fault<K: Sink>(alloc: Global, fault: Fault, sink: &mut K) -> Outcome
+    ensures answer { (texts : Relations) (parts : Parts) → IsCaused parts fault → Answers texts parts (K.written sink.old) (K.written sink.new) result.status result.report result.fault }
+    ensures write_fault { result.status ≡ 5 → Rises (K.faults sink.old) (K.faults sink.new) }
+    ensures kept { K.faults sink.old ≤ K.faults sink.new }
+{
+    let Ok(line) = fault.line(alloc) else {
+        return Outcome::bare(6);
+    };
+    match put(sink, line.as_bytes()) {
+        Ok(()) => Outcome {
+            status: 1,
+            report: None,
+            fault: Some(fault),
+        },
+        Err(SinkFault::Failed) => Outcome {
+            status: 5,
+            report: None,
+            fault: Some(fault),
+        },
+        Err(SinkFault::Memory) => Outcome::bare(6),
+    }
+}
+
+// The schema and the values examined, and what comes of it printed.
+fn run_parts<K: Sink, T: Texts>(
+    alloc: Global,
+    depth: u32,
+    schema: &Value,
+    values: &[Value],
+    sink: &mut K,
+    texts: &mut T,
+) -> Outcome
+    requires { 1 ≤ depth }
+    ensures answer { (parts : Parts) → parts.schema ≡ view schema.now → data_of parts.values ≡ map view values.now → Answers (T.relations texts.old) parts (K.written sink.old) (K.written sink.new) result.status result.report result.fault }
+    ensures write_fault { result.status ≡ 5 → Rises (K.faults sink.old) (K.faults sink.new) }
+    ensures kept { K.faults sink.old ≤ K.faults sink.new }
+{
+    match examine(alloc, schema, depth, values, texts) {
+        Ok(report) => print_report(alloc, report, sink),
+        Err(fault) => {
+            if is_memory(&fault) {
+                Outcome::bare(6)
+            } else {
+                print_fault(alloc, fault, sink)
+            }
+        }
+    }
+}
+
+// The bytes of an input read, and examined.
+fn run_bytes<K: Sink, T: Texts>(
+    alloc: Global,
+    depth: u32,
+    bytes: &[u8],
+    sink: &mut K,
+    texts: &mut T,
+) -> Outcome
+    requires depth { 1 ≤ depth }
+    requires short { length bytes.now ≤ limit }
+    ensures ends { Ends (T.relations texts.old) bytes.now (K.written sink.old) (K.written sink.new) result.status result.report result.fault }
+    ensures write_fault { result.status ≡ 5 → Rises (K.faults sink.old) (K.faults sink.new) }
+    ensures kept { K.faults sink.old ≤ K.faults sink.new }
+{
+    let value = match Value::from_slice(alloc, bytes) {
+        Ok(value) => value,
+        Err(error) => {
+            return Outcome::bare(if error.is_memory() { 6 } else { 3 });
+        }
+    };
+    match input_parts(&value) {
+        Some(parts) => run_parts(alloc, depth, parts.schema, parts.values, sink, texts),
+        None => Outcome::bare(3),
+    }
+}
+
+/// The most bytes of an input.
+const LIMIT: usize = 16_777_216;
+
+/// Runs the program: the words after its name, an input from the source, the page or the line of a fault to the sink.
+/// `check DEPTH`, with DEPTH from 1 to 512, reads one JSON object with exactly the members `schema` and `values`, the
+/// latter a list, in at most 16,777,216 bytes, and examines them. The outcome's status says how it ended.
+pub fn run<S: Source, K: Sink, T: Texts>(
+    alloc: Global,
+    words: &[String],
+    source: &mut S,
+    sink: &mut K,
+    texts: &mut T,
+) -> Outcome
+    ensures words { (result.status ≡ 2) ↔ (check_depth (map string_bytes words.now) ≡ None) }
+    ensures other_words { result.status ≡ 2 → (S.left source.new ≡ S.left source.old) × IsBare (K.written sink.old) (K.written sink.new) result.report result.fault }
+    ensures ends { (all : List ℕ) → S.left source.old ≡ Some all → IsSome (check_depth (map string_bytes words.now)) → EndsReading (T.relations texts.old) all (K.written sink.old) (K.written sink.new) result.status result.report result.fault }
+    ensures spent { (all : List ℕ) → S.left source.old ≡ Some all → IsPrinting result.status → S.left source.new ≡ Some [] }
+    ensures read_fault { result.status ≡ 4 → Rises (S.faults source.old) (S.faults source.new) }
+    ensures write_fault { result.status ≡ 5 → Rises (K.faults sink.old) (K.faults sink.new) }
+{
+    let Some(depth) = depth_of_words(words) else {
+        return Outcome::bare(2);
+    };
+    match read_input(alloc, source, LIMIT) {
+        Ok(bytes) => run_bytes(alloc, depth, &bytes, sink, texts),
+        Err(InputFault::Memory) => Outcome::bare(6),
+        Err(InputFault::Failed) => Outcome::bare(4),
+        Err(InputFault::TooLong) => Outcome::bare(3),
+    }
+}
