@@ -4,6 +4,7 @@
 mod copy;
 mod stream;
 mod symbol;
+mod text;
 mod token;
 
 pub use copy::respan;

@@ -1,0 +1,10 @@
+pub use Rattle.token_trees.specs.Token
+pub use Rattle.token_trees.specs.View
+pub use Rattle.token_trees.specs.Text
+pub mod Front
+pub mod Reading
+pub mod Faults
+pub mod Lexeme
+pub mod Groups
+pub mod Partners
+pub mod Laws
