@@ -8,6 +8,12 @@ pub record LifetimeD : Type 0 where
   pub name : Name
   pub span : Span
 
+-- a string literal: its text, what follows it at once, its place
+pub record LitStrD : Type 0 where
+  pub text : List ℕ
+  pub suffix : List ℕ
+  pub span : Span
+
 pub data MemberD : Type 0 where
   named : Name → MemberD
   unnamed : ℕ → MemberD

@@ -1,10 +1,11 @@
 -- The trees that values of the program stand for.
-use Rattle.std.specs.Prelude.{Option, Some, None, option_map}
+use Rattle.std.specs.Prelude.{Option, Some, None, option_map, string_bytes}
 use Rattle.std.specs.declared.alloc.Global.{Global}
 use Rattle.std.specs.declared.boxed.Box.{Box}
 use Rattle.token_trees.specs.View.{name_view, fixed_view, stream}
-use Rattle.syntax_trees.specs.Syntax.{LifetimeD, MemberD, named, unnamed, TyD, ty_array, ty_fn, ty_group, ty_impl, ty_infer, ty_macro, ty_never, ty_paren, ty_path, ty_pointer, ty_reference, ty_slice, ty_object, ty_tuple, ty_verbatim, PathD, path, SegmentD, segment, ArgumentsD, no_arguments, angle, parens, GenericD, arg_lifetime, arg_ty, arg_const, arg_assoc_ty, arg_assoc_const, arg_constraint, QSelfD, qself, ExprD, ex_binary, ex_call, ex_cast, ex_field, ex_index, ex_fixed, ex_paren, ex_path, ex_unary, ex_verbatim, ExprPathD, expr_path, BoundD, bound_trait, bound_lifetime, MaybeTy, no_ty, some_ty, MaybeQSelf, no_qself, some_qself, tys_of, bounds_of, segments_of, generics_of, exprs_of}
+use Rattle.syntax_trees.specs.Syntax.{LifetimeD, LitStrD, MemberD, named, unnamed, TyD, ty_array, ty_fn, ty_group, ty_impl, ty_infer, ty_macro, ty_never, ty_paren, ty_path, ty_pointer, ty_reference, ty_slice, ty_object, ty_tuple, ty_verbatim, PathD, path, SegmentD, segment, ArgumentsD, no_arguments, angle, parens, GenericD, arg_lifetime, arg_ty, arg_const, arg_assoc_ty, arg_assoc_const, arg_constraint, QSelfD, qself, ExprD, ex_binary, ex_call, ex_cast, ex_field, ex_index, ex_fixed, ex_paren, ex_path, ex_unary, ex_verbatim, ExprPathD, expr_path, BoundD, bound_trait, bound_lifetime, MaybeTy, no_ty, some_ty, MaybeQSelf, no_qself, some_qself, tys_of, bounds_of, segments_of, generics_of, exprs_of}
 use Rattle.syntax_trees.specs.declared.tree.Lifetime.{Lifetime}
+use Rattle.syntax_trees.specs.declared.tree.LitStr.{LitStr}
 use Rattle.syntax_trees.specs.declared.tree.Member.{Member}
 use Rattle.syntax_trees.specs.declared.tree.Member.TheVariants.{Named, Unnamed}
 use Rattle.syntax_trees.specs.declared.tree.Bound.TheOpen.{Ty-F, Path-F, PathSegment-F, PathArguments-F, GenericArgument-F, QSelf-F, Expr-F, ExprPath-F, Bound-F}
@@ -20,6 +21,9 @@ use Rattle.syntax_trees.specs.declared.tree.Bound.{Bound, fold-Bound}
 
 abbrev pub lifetime_view : Lifetime → LifetimeD
 lifetime_view l = record { name = name_view l.ident; span = l.span }
+
+abbrev pub lit_str_view : LitStr → LitStrD
+lit_str_view l = record { text = string_bytes l.value; suffix = string_bytes l.suffix; span = l.span }
 
 abbrev pub member_view : Member → MemberD
 member_view (Named i) = named (name_view i)

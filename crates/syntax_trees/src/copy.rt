@@ -1,11 +1,11 @@
 //! Copies of the syntax trees.
 ghost use Rattle.std.specs.Prelude.{◌≡◌, IfOk, map};
-ghost use Rattle.syntax_trees.specs.View.{ty, path_view, segment_view, arguments_view, generic_view, qself_view, expr, expr_path_view, bound_view, lifetime_view, member_view, maybe_ty_view, maybe_qself_view, maybe_lifetime_view};
+ghost use Rattle.syntax_trees.specs.View.{ty, path_view, segment_view, arguments_view, generic_view, qself_view, expr, expr_path_view, bound_view, lifetime_view, member_view, maybe_ty_view, maybe_qself_view, maybe_lifetime_view, lit_str_view};
 ghost use Rattle.token_trees.specs.View.{fixed_view};
 
 use crate::tree::{
-    Bound, Expr, ExprPath, GenericArgument, Lifetime, Member, Path, PathArguments, PathSegment,
-    QSelf, Ty,
+    Bound, Expr, ExprPath, GenericArgument, Lifetime, LitStr, Member, Path, PathArguments,
+    PathSegment, QSelf, Ty,
 };
 use std::alloc::{AllocError, Global};
 use token_trees::Literal;
@@ -29,6 +29,18 @@ impl Member {
             Member::Named(name) => Ok(Member::Named(name.try_clone(alloc)?)),
             Member::Unnamed(n) => Ok(Member::Unnamed(*n)),
         }
+    }
+}
+
+impl LitStr {
+    pub fn try_clone(&self, alloc: Global) -> Result<LitStr, AllocError>
+        ensures { IfOk result (λ l. lit_str_view l ≡ lit_str_view self.now) }
+    {
+        Ok(LitStr {
+            value: String::from_str(alloc, &self.value)?,
+            suffix: String::from_str(alloc, &self.suffix)?,
+            span: self.span,
+        })
     }
 }
 
@@ -130,14 +142,18 @@ fn copy_maybe_qself(
 {
     match from {
         None => Ok(None),
-        Some(inner) => Ok(Some(Box::new(
-            alloc,
-            QSelf {
-                ty: copy_ty(alloc, &inner.ty)?,
-                position: inner.position,
-            },
-        )?)),
+        Some(inner) => Ok(Some(Box::new(alloc, copy_qself(alloc, inner)?)?)),
     }
+}
+
+#[cycle(copy)]
+fn copy_qself(alloc: Global, from: &QSelf) -> Result<QSelf, AllocError>
+    ensures { IfOk result (λ q. qself_view q ≡ qself_view from.now) }
+{
+    Ok(QSelf {
+        ty: copy_ty(alloc, &from.ty)?,
+        position: from.position,
+    })
 }
 
 #[cycle(copy)]
@@ -152,7 +168,7 @@ fn copy_tys(alloc: Global, from: &Vec<Ty>) -> Result<Vec<Ty>, AllocError>
 }
 
 #[cycle(copy)]
-fn copy_bounds(alloc: Global, from: &Vec<Bound>) -> Result<Vec<Bound>, AllocError>
+pub(crate) fn copy_bounds(alloc: Global, from: &Vec<Bound>) -> Result<Vec<Bound>, AllocError>
     ensures { IfOk result (λ v. map bound_view v.items ≡ map bound_view from.now.items) }
 {
     let mut copies = Vec::with_capacity(alloc, from.len())?;
@@ -178,14 +194,21 @@ fn copy_path(alloc: Global, from: &Path) -> Result<Path, AllocError>
 {
     let mut segments = Vec::with_capacity(alloc, from.segments.len())?;
     for item in &from.segments {
-        segments.push(PathSegment {
-            ident: item.ident.try_clone(alloc)?,
-            arguments: copy_arguments(alloc, &item.arguments)?,
-        })?;
+        segments.push(copy_segment(alloc, item)?)?;
     }
     Ok(Path {
         leading: from.leading,
         segments,
+    })
+}
+
+#[cycle(copy)]
+fn copy_segment(alloc: Global, from: &PathSegment) -> Result<PathSegment, AllocError>
+    ensures { IfOk result (λ s. segment_view s ≡ segment_view from.now) }
+{
+    Ok(PathSegment {
+        ident: from.ident.try_clone(alloc)?,
+        arguments: copy_arguments(alloc, &from.arguments)?,
     })
 }
 
@@ -313,5 +336,61 @@ impl Ty {
         ensures { IfOk result (λ t. ty t ≡ ty self.now) }
     {
         copy_ty(alloc, self)
+    }
+}
+
+impl QSelf {
+    pub fn try_clone(&self, alloc: Global) -> Result<QSelf, AllocError>
+        ensures { IfOk result (λ q. qself_view q ≡ qself_view self.now) }
+    {
+        copy_qself(alloc, self)
+    }
+}
+
+impl PathSegment {
+    pub fn try_clone(&self, alloc: Global) -> Result<PathSegment, AllocError>
+        ensures { IfOk result (λ s. segment_view s ≡ segment_view self.now) }
+    {
+        copy_segment(alloc, self)
+    }
+}
+
+impl PathArguments {
+    pub fn try_clone(&self, alloc: Global) -> Result<PathArguments, AllocError>
+        ensures { IfOk result (λ a. arguments_view a ≡ arguments_view self.now) }
+    {
+        copy_arguments(alloc, self)
+    }
+}
+
+impl GenericArgument {
+    pub fn try_clone(&self, alloc: Global) -> Result<GenericArgument, AllocError>
+        ensures { IfOk result (λ g. generic_view g ≡ generic_view self.now) }
+    {
+        copy_generic(alloc, self)
+    }
+}
+
+impl Expr {
+    pub fn try_clone(&self, alloc: Global) -> Result<Expr, AllocError>
+        ensures { IfOk result (λ e. expr e ≡ expr self.now) }
+    {
+        copy_expr(alloc, self)
+    }
+}
+
+impl ExprPath {
+    pub fn try_clone(&self, alloc: Global) -> Result<ExprPath, AllocError>
+        ensures { IfOk result (λ p. expr_path_view p ≡ expr_path_view self.now) }
+    {
+        copy_expr_path(alloc, self)
+    }
+}
+
+impl Bound {
+    pub fn try_clone(&self, alloc: Global) -> Result<Bound, AllocError>
+        ensures { IfOk result (λ b. bound_view b ≡ bound_view self.now) }
+    {
+        copy_bound(alloc, self)
     }
 }

@@ -2,6 +2,7 @@
 #![tactic(auto)]
 
 mod copy;
+mod copy_item;
 mod cursor;
 mod item;
 mod tree;

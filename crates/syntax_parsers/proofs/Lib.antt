@@ -1,0 +1,12 @@
+pub mod spelling
+pub mod Steps
+pub mod Results
+pub mod Spelled
+pub mod Levels
+pub mod Opened
+pub mod Weights
+pub mod Refused
+pub mod Loops
+pub mod Lengths
+pub mod WhereLoops
+pub mod Ends

@@ -1,0 +1,10 @@
+pub mod Stands
+pub mod Read
+pub mod Halts
+pub mod Begins
+pub mod Room
+pub mod Reach
+pub mod Printing
+pub mod Exact
+pub mod Worked
+pub mod Aside

@@ -1,0 +1,14 @@
+pub mod Answer
+pub mod Fronts
+pub mod Grammar
+pub mod Lifetimes
+pub mod Parts
+pub mod Read
+pub mod Where
+pub mod Whole
+pub mod Spelling
+pub mod SpellingAside
+pub mod SpellingExamples
+pub mod SpellingForm
+pub mod SpellingLaws
+pub mod Worked

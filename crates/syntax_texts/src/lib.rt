@@ -1,0 +1,6 @@
+//! Paths, types, predicates and lifetimes in string literals.
+#![tactic(auto)]
+
+mod texts;
+
+pub use texts::{parse_expr_path, parse_lifetimes, parse_path, parse_type, parse_where};
