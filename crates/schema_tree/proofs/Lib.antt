@@ -1,5 +1,3 @@
-pub mod Escapes
-pub mod Walks
 pub mod Names
 pub mod Listed
 pub mod Fields

@@ -1,5 +1,4 @@
 pub mod Texts
-pub mod Walk
 pub mod Fault
 pub mod Form
 pub mod FormView

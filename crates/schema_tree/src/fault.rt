@@ -2,8 +2,8 @@
 ghost use Rattle.std.specs.Prelude.{◌≡◌, ◌++◌, IfOk, codes, decimal, string_bytes};
 ghost use Rattle.schema_tree.specs.Fault.{fault_line, fault_view, line_at};
 
-use crate::location::{Location, Walk};
 use crate::print::json_string;
+use schema_types::{Location, Walk};
 use serde_json::Value;
 use std::alloc::{AllocError, Global};
 use thiserror::Error;

@@ -5,7 +5,6 @@
 mod conversions;
 mod fault;
 mod form;
-mod location;
 mod name;
 mod number;
 mod print;
@@ -14,11 +13,14 @@ mod texts;
 pub use conversions::{Constraint, Conversions, Rule};
 pub use fault::{Fault, InvalidKind, UnsupportedKind};
 pub use form::{FlatField, FlatKind, read_form};
-pub use location::{Location, Walk};
 pub use name::is_kept_name;
 pub use number::{holds_i64_alone, i64_alone_has_no_float};
 pub use print::json_string;
 pub use schema_defs::{Format, InstanceType};
+pub use schema_types::{
+    ArrayValidation, Definition, Document, Items, Location, NumberValidation, ObjectValidation,
+    Schema, SchemaObject, StringValidation, Subschemas, Types, Walk,
+};
 pub use texts::{PlainTexts, TextFault, Texts, no_relations_are_lawful};
 
 #[cfg(test)]

@@ -1,0 +1,11 @@
+pub mod Escapes
+pub mod Walks
+pub mod Entries
+pub mod References
+pub mod Alike
+pub mod Lists
+pub mod Views
+pub mod Properties
+pub mod Digits
+pub mod Judged
+pub mod Targets

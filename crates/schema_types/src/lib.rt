@@ -1,0 +1,24 @@
+//! Places in a document, walks of such places, and schemas (JSON Schema Draft 7, in the profile that is read) as the
+//! program holds them.
+#![tactic(auto)]
+
+mod copy;
+mod document;
+pub mod laws;
+mod location;
+mod place;
+mod reference;
+mod same;
+mod schema;
+#[cfg(test)]
+mod tests;
+mod validate;
+
+pub use document::{Definition, Document, Names};
+pub use location::{Location, Walk};
+pub use schema::{
+    ArrayValidation, Items, NumberValidation, ObjectValidation, Schema, SchemaObject,
+    StringValidation, Subschemas, Types,
+};
+pub use schema_defs::InstanceType;
+pub use validate::value_validate;
