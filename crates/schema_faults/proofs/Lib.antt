@@ -1,0 +1,10 @@
+pub mod Names
+pub mod References
+pub mod Walk
+pub mod Readings
+pub mod Objects
+pub mod Documents
+pub mod Definitions
+pub mod Roots
+pub mod Filled
+pub mod Targets
