@@ -1,0 +1,13 @@
+-- The work that is left at a document, a value's size, a number of references, a schema's size, and a step's rank.
+use Rattle.std.proofs.Common.{ℕ}
+use Rattle.schema_defs.specs.Schema.{Document}
+use Rattle.schema_defs.specs.Admits.{allowed}
+use Rattle.schema_admission.specs.Sizes.{document_size}
+use Rattle.schema_admission.proofs.Order.{pack}
+
+abbrev pub work : Document → ℕ → ℕ → ℕ → ℕ → ℕ
+work d x y z k = pack (allowed d) (document_size d) x y z k
+
+-- where all references are allowed
+abbrev pub anew : Document → ℕ → ℕ → ℕ
+anew d x k = work d x (allowed d) (document_size d) k
