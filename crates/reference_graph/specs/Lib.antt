@@ -1,0 +1,4 @@
+pub mod Graph
+pub mod Trail
+pub mod Ranking
+pub mod Laws
