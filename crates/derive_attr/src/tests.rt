@@ -1,7 +1,7 @@
 //! Attribute lists built by hand, and what is told of them.
 
 use crate::attr::{Container, Field};
-use crate::{Ctxt, DiagKind, Diagnostic, NoCase, RenameRule, Renamer};
+use crate::{Ctxt, DiagKind, Diagnostic, NoCase, RenameRule, Renamer, symbol};
 use std::alloc::{AllocError, Global};
 use std::test::Fail;
 use syntax_trees::{
@@ -215,5 +215,50 @@ fn contexts(rt: HostRuntime) -> Result<(), Fail> {
     assert_eq!(rt; name.as_str(), "a_b");
     let variant = NoCase.apply_to_variant(alloc, RenameRule::None, "A")?;
     assert_eq!(rt; variant.as_str(), "A");
+    Ok(())
+}
+
+#[test]
+fn symbols(rt: HostRuntime) -> Result<(), Fail> {
+    for (symbol, want) in [
+        (symbol::ALIAS, "alias"),
+        (symbol::BORROW, "borrow"),
+        (symbol::BOUND, "bound"),
+        (symbol::CONTENT, "content"),
+        (symbol::CRATE, "crate"),
+        (symbol::DEFAULT, "default"),
+        (symbol::DENY_UNKNOWN_FIELDS, "deny_unknown_fields"),
+        (symbol::DESERIALIZE, "deserialize"),
+        (symbol::DESERIALIZE_WITH, "deserialize_with"),
+        (symbol::EXPECTING, "expecting"),
+        (symbol::FIELD_IDENTIFIER, "field_identifier"),
+        (symbol::FLATTEN, "flatten"),
+        (symbol::FROM, "from"),
+        (symbol::GETTER, "getter"),
+        (symbol::INTO, "into"),
+        (symbol::NON_EXHAUSTIVE, "non_exhaustive"),
+        (symbol::OTHER, "other"),
+        (symbol::REMOTE, "remote"),
+        (symbol::RENAME, "rename"),
+        (symbol::RENAME_ALL, "rename_all"),
+        (symbol::RENAME_ALL_FIELDS, "rename_all_fields"),
+        (symbol::REPR, "repr"),
+        (symbol::SERDE, "serde"),
+        (symbol::SERIALIZE, "serialize"),
+        (symbol::SERIALIZE_WITH, "serialize_with"),
+        (symbol::SKIP, "skip"),
+        (symbol::SKIP_DESERIALIZING, "skip_deserializing"),
+        (symbol::SKIP_SERIALIZING, "skip_serializing"),
+        (symbol::SKIP_SERIALIZING_IF, "skip_serializing_if"),
+        (symbol::TAG, "tag"),
+        (symbol::TRANSPARENT, "transparent"),
+        (symbol::TRY_FROM, "try_from"),
+        (symbol::UNTAGGED, "untagged"),
+        (symbol::VARIANT_IDENTIFIER, "variant_identifier"),
+        (symbol::WITH, "with"),
+    ] {
+        assert_eq!(rt; symbol.text(), want);
+        assert_eq!(rt; symbol.to_string(rt.alloc())?.as_str(), want);
+    }
     Ok(())
 }
