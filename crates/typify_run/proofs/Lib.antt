@@ -12,3 +12,4 @@ pub mod PlainTypes
 pub mod Judged
 pub mod Reported
 pub mod Inputs
+pub mod Statuses

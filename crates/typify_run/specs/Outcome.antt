@@ -1,5 +1,5 @@
 -- What each status of a run says: of the input, of the bytes that were written, and of what is carried.
-use Rattle.std.specs.Prelude.{◌≡◌, ◌⊎◌, ℕ, zero, suc, List, [], ◌∷◌, false, Option, Some, None}
+use Rattle.std.specs.Prelude.{◌≡◌, ◌⊎◌, ℕ, zero, suc, List, [], ◌∷◌, Bool, true, false, Option, Some, None}
 use Rattle.serde_json.specs.Data.{Data, Items, no_items, item}
 use Rattle.run_io.specs.Bytes.{Appends, AppendsPrefix}
 use Rattle.json_value.specs.View.{value_of}
@@ -16,13 +16,17 @@ abbrev pub data_of : Items → List Data
 data_of no_items = []
 data_of (item d ds) = d ∷ data_of ds
 
+-- the schema is of the one form, and the values' numbers are i64
+abbrev pub is_built : Parts → Bool
+is_built parts = is_examined (value_of parts.schema) (data_of parts.values)
+
 -- the report is one of the input's schema and values
 abbrev pub IsReported : Relations → Parts → Report → Type 0
-IsReported texts parts r = IsReportOf texts (value_of parts.schema) (data_of parts.values) r
+IsReported texts parts r = IsReportOf texts (value_of parts.schema) (data_of parts.values) r × (is_built parts ≡ true)
 
 -- the fault has its cause: the schema, or a value, is of no form that is built
 abbrev pub IsCaused : Parts → Fault → Type 0
-IsCaused parts f = (fault_view f ≡ not_yet) × (is_examined (value_of parts.schema) (data_of parts.values) ≡ false)
+IsCaused parts f = (fault_view f ≡ not_yet) × (is_built parts ≡ false)
 
 abbrev pub line_of : Fault → List ℕ
 line_of f = fault_line (fault_view f)
@@ -59,6 +63,34 @@ Ends texts bytes before after status report fault =
 abbrev pub EndsReading : Relations → List ℕ → Option (List ℕ) → Option (List ℕ) → ℕ → Option Report → Option Fault → Type 0
 EndsReading texts bytes before after status report fault = ((status ≡ 4) × IsBare before after report fault) ⊎ Ends texts bytes before after status report fault
 
+-- ---- what one status says of all the bytes of an input
+
+-- 0: a report of the input is carried, and its page was written whole
+abbrev pub IsReportPrinted : Relations → List ℕ → Option (List ℕ) → Option (List ℕ) → Option Report → Option Fault → Type 0
+IsReportPrinted texts all before after report fault =
+    (parts : Parts) × (r : Report) × IsInput all parts × (report ≡ Some r) × (fault ≡ None) × IsReported texts parts r × Appends before after (page r)
+
+-- 1: a fault of the input is carried, and its line was written whole
+abbrev pub IsFaultPrinted : List ℕ → Option (List ℕ) → Option (List ℕ) → Option Report → Option Fault → Type 0
+IsFaultPrinted all before after report fault =
+    (parts : Parts) × (f : Fault) × IsInput all parts × (report ≡ None) × (fault ≡ Some f) × IsCaused parts f × Appends before after (line_of f)
+
+-- 5: a report or a fault of the input is carried, and a front of its text was written
+abbrev pub IsWritingCut : Relations → List ℕ → Option (List ℕ) → Option (List ℕ) → Option Report → Option Fault → Type 0
+IsWritingCut texts all before after report fault =
+    (parts : Parts) × IsInput all parts
+    × (((r : Report) × (report ≡ Some r) × (fault ≡ None) × IsReported texts parts r × AppendsPrefix before after (page r))
+    ⊎ ((f : Fault) × (report ≡ None) × (fault ≡ Some f) × IsCaused parts f × AppendsPrefix before after (line_of f)))
+
+-- 6: nothing is carried; nothing was written, or a front of the text of a report or a fault of the input
+abbrev pub IsMemorySpent : Relations → List ℕ → Option (List ℕ) → Option (List ℕ) → Option Report → Option Fault → Type 0
+IsMemorySpent texts all before after report fault =
+    (report ≡ None) × (fault ≡ None) × ((after ≡ before) ⊎ ((parts : Parts) × IsInput all parts × IsCutOff texts parts before after))
+
 -- statuses at which the whole input was read
 abbrev pub IsPrinting : ℕ → Type 0
 IsPrinting status = (status ≡ 0) ⊎ ((status ≡ 1) ⊎ (status ≡ 5))
+
+-- statuses that may stand in place of one that has its cause: reading failed, writing failed, memory ran out
+abbrev pub IsCutShort : ℕ → Type 0
+IsCutShort status = (status ≡ 4) ⊎ ((status ≡ 5) ⊎ (status ≡ 6))

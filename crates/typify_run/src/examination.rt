@@ -98,9 +98,9 @@ fn examine_fields(
 }
 
 /// The items that stand for a schema document, with a verdict for each value, in order. `depth` bounds the walks of the
-/// conversion. For now one form of schema is accepted: a closed object whose members are all required booleans,
-/// integers or texts; any other, and a value with a number that isn't an i64, is `Unsupported` as not built yet, at the
-/// root. Fails with `Memory` where memory runs out.
+/// conversion. One form of schema is accepted: a closed object whose members are all required booleans, integers or
+/// texts. Any other, and a value with a number that isn't an i64, is `Unsupported` of kind `NotYet` at the root. Fails
+/// with `Memory` where memory runs out.
 pub fn examine<T: Texts>(
     alloc: Global,
     document: &Value,

@@ -1,11 +1,11 @@
 //! The run of the program, over any source, sink and judge of texts.
-ghost use Rattle.std.specs.Prelude.{◌≡◌, ◌≤◌, ◌↔◌, ℕ, List, [], map, length, Some, None, IsSome, IsTrue, string_bytes};
+ghost use Rattle.std.specs.Prelude.{◌≡◌, ◌≢◌, ◌≤◌, ◌↔◌, ◌⊎◌, false, ℕ, List, [], map, length, Some, None, IsTrue, string_bytes};
 ghost use Rattle.serde_json.specs.View.{view};
 ghost use Rattle.run_io.specs.Bytes.{Rises};
 ghost use Rattle.schema_defs.specs.Texts.{Relations};
 ghost use Rattle.schema_tree.specs.Fault.{fault_view, memory};
-ghost use Rattle.typify_run.specs.Input.{Parts, limit};
-ghost use Rattle.typify_run.specs.Outcome.{Answers, Ends, EndsReading, IsBare, IsCaused, IsPrinting, IsReported, data_of};
+ghost use Rattle.typify_run.specs.Input.{Parts, IsInput, limit};
+ghost use Rattle.typify_run.specs.Outcome.{Answers, Ends, EndsReading, IsBare, IsCaused, IsCutShort, IsFaultPrinted, IsMemorySpent, IsNoInput, IsPrinting, IsReportPrinted, IsReported, IsWritingCut, data_of, is_built};
 ghost use Rattle.typify_run.specs.Page.{ArePrintable};
 ghost use Rattle.typify_run.specs.Verdict.{verdict_view};
 ghost use Rattle.typify_run.specs.Words.{check_depth};
@@ -135,6 +135,30 @@ fn run_bytes<K: Sink, T: Texts>(
 /// The most bytes of an input.
 const LIMIT: usize = 16_777_216;
 
+// The input read to its end, and examined.
+fn run_check<S: Source, K: Sink, T: Texts>(
+    alloc: Global,
+    depth: u32,
+    source: &mut S,
+    sink: &mut K,
+    texts: &mut T,
+) -> Outcome
+    requires { 1 ≤ depth }
+    ensures ends { (all : List ℕ) → S.left source.old ≡ Some all → EndsReading (T.relations texts.old) all (K.written sink.old) (K.written sink.new) result.status result.report result.fault }
+    ensures built { result.status ≢ 2 }
+    ensures within { result.status ≤ 6 }
+    ensures spent { (all : List ℕ) → S.left source.old ≡ Some all → IsPrinting result.status → S.left source.new ≡ Some [] }
+    ensures read_fault { result.status ≡ 4 → Rises (S.faults source.old) (S.faults source.new) × IsBare (K.written sink.old) (K.written sink.new) result.report result.fault }
+    ensures write_fault { result.status ≡ 5 → Rises (K.faults sink.old) (K.faults sink.new) }
+{
+    match read_input(alloc, source, LIMIT) {
+        Ok(bytes) => run_bytes(alloc, depth, &bytes, sink, texts),
+        Err(InputFault::Memory) => Outcome::bare(6),
+        Err(InputFault::Failed) => Outcome::bare(4),
+        Err(InputFault::TooLong) => Outcome::bare(3),
+    }
+}
+
 /// Runs the program: the words after its name, an input from the source, the page or the line of a fault to the sink.
 /// `check DEPTH`, with DEPTH from 1 to 512, reads one JSON object with exactly the members `schema` and `values`, the
 /// latter a list, in at most 16,777,216 bytes, and examines them. The outcome's status says how it ended.
@@ -145,20 +169,22 @@ pub fn run<S: Source, K: Sink, T: Texts>(
     sink: &mut K,
     texts: &mut T,
 ) -> Outcome
+    ensures within { result.status ≤ 6 }
+    ensures report { (all : List ℕ) → S.left source.old ≡ Some all → result.status ≡ 0 → IsReportPrinted (T.relations texts.old) all (K.written sink.old) (K.written sink.new) result.report result.fault }
+    ensures fault { (all : List ℕ) → S.left source.old ≡ Some all → result.status ≡ 1 → IsFaultPrinted all (K.written sink.old) (K.written sink.new) result.report result.fault }
     ensures words { (result.status ≡ 2) ↔ (check_depth (map string_bytes words.now) ≡ None) }
     ensures other_words { result.status ≡ 2 → (S.left source.new ≡ S.left source.old) × IsBare (K.written sink.old) (K.written sink.new) result.report result.fault }
-    ensures ends { (all : List ℕ) → S.left source.old ≡ Some all → IsSome (check_depth (map string_bytes words.now)) → EndsReading (T.relations texts.old) all (K.written sink.old) (K.written sink.new) result.status result.report result.fault }
-    ensures spent { (all : List ℕ) → S.left source.old ≡ Some all → IsPrinting result.status → S.left source.new ≡ Some [] }
-    ensures read_fault { result.status ≡ 4 → Rises (S.faults source.old) (S.faults source.new) }
+    ensures no_input { (all : List ℕ) → S.left source.old ≡ Some all → result.status ≡ 3 → IsNoInput all × IsBare (K.written sink.old) (K.written sink.new) result.report result.fault }
+    ensures read_fault { result.status ≡ 4 → Rises (S.faults source.old) (S.faults source.new) × IsBare (K.written sink.old) (K.written sink.new) result.report result.fault }
     ensures write_fault { result.status ≡ 5 → Rises (K.faults sink.old) (K.faults sink.new) }
+    ensures writing_cut { (all : List ℕ) → S.left source.old ≡ Some all → result.status ≡ 5 → IsWritingCut (T.relations texts.old) all (K.written sink.old) (K.written sink.new) result.report result.fault }
+    ensures memory { (all : List ℕ) → S.left source.old ≡ Some all → result.status ≡ 6 → IsMemorySpent (T.relations texts.old) all (K.written sink.old) (K.written sink.new) result.report result.fault }
+    ensures refused { (all : List ℕ) → S.left source.old ≡ Some all → IsNoInput all → (result.status ≡ 2) ⊎ ((result.status ≡ 3) ⊎ IsCutShort result.status) }
+    ensures not_built { (all : List ℕ) (parts : Parts) → S.left source.old ≡ Some all → IsInput all parts → is_built parts ≡ false → (result.status ≡ 1) ⊎ ((result.status ≡ 2) ⊎ IsCutShort result.status) }
+    ensures spent { (all : List ℕ) → S.left source.old ≡ Some all → IsPrinting result.status → S.left source.new ≡ Some [] }
 {
-    let Some(depth) = depth_of_words(words) else {
-        return Outcome::bare(2);
-    };
-    match read_input(alloc, source, LIMIT) {
-        Ok(bytes) => run_bytes(alloc, depth, &bytes, sink, texts),
-        Err(InputFault::Memory) => Outcome::bare(6),
-        Err(InputFault::Failed) => Outcome::bare(4),
-        Err(InputFault::TooLong) => Outcome::bare(3),
+    match depth_of_words(words) {
+        Some(depth) => run_check(alloc, depth, source, sink, texts),
+        None => Outcome::bare(2),
     }
 }

@@ -1,0 +1,95 @@
+-- What each status says, out of how a run ends.
+use Rattle.std.proofs.Common.{◌≡◌, ◌≢◌, ◌⊎◌, inl, inr, ℕ, zero, suc, List, Bool, true, false, true≢false, Option, Some, None, refl, sym, ◌∙◌, ap, subst, arith}
+use Rattle.schema_defs.specs.Texts.{Relations}
+use Rattle.schema_tree.specs.declared.fault.Fault.{Fault}
+use Rattle.typify_run.specs.Input.{Parts, IsInput, parts_of}
+use Rattle.typify_run.specs.Outcome.{Answers, Ends, EndsReading, IsBare, IsCaused, IsCutOff, IsCutShort, IsFaultPrinted, IsMemorySpent, IsNoInput, IsReportPrinted, IsReported, IsWritingCut, is_built}
+use Rattle.typify_run.specs.declared.report.Report.{Report}
+
+some_injective : {A : Type 0} {x y : A} → Some x ≡ Some y → x ≡ y
+some_injective e = cc
+
+-- bytes are an input of one schema and one list of values
+one_input : (all : List ℕ) (p q : Parts) → IsInput all p → IsInput all q → p ≡ q
+one_input all p q a b =
+    let same : a.read.0 ≡ b.read.0 = some_injective (sym a.read.1 ∙ b.read.1) in
+    some_injective (sym a.read.2 ∙ ap parts_of same ∙ b.read.2)
+
+module _ (texts : Relations) (all : List ℕ) (before after : Option (List ℕ)) where
+  -- by what the parts of the input say, where that is said at that status
+  abbrev Said : ℕ → Option Report → Option Fault → Type 0
+  Said n report fault = (parts : Parts) × IsInput all parts × Answers texts parts before after n report fault
+
+  -- a status that neither stands for no input, nor for reading, nor for memory that ran out early, is said by the parts
+  said : (status n : ℕ) (report : Option Report) (fault : Option Fault) → status ≡ n → n ≢ 3 → n ≢ 4 → n ≢ 6 → EndsReading texts all before after status report fault → Said n report fault
+  said status n report fault e three four six (inl h) = absurd (four (sym e ∙ h.0))
+  said status n report fault e three four six (inr (inl h)) = absurd (three (sym e ∙ h.0))
+  said status n report fault e three four six (inr (inr (inl h))) = absurd (six (sym e ∙ h.0))
+  said status n report fault e three four six (inr (inr (inr h))) = (h.0, h.1, subst (λ s. Answers texts h.0 before after s report fault) e h.2)
+
+  printed : (report : Option Report) (fault : Option Fault) → Said 0 report fault → IsReportPrinted texts all before after report fault
+  printed (Some r) None h = (h.0, r, h.1, refl, refl, h.2.0, h.2.1)
+  printed None f h = absurd h.2
+  printed (Some r) (Some f) h = absurd h.2
+
+  faulted : (report : Option Report) (fault : Option Fault) → Said 1 report fault → IsFaultPrinted all before after report fault
+  faulted None (Some f) h = (h.0, f, h.1, refl, refl, h.2.0, h.2.1)
+  faulted None None h = absurd h.2
+  faulted (Some r) f h = absurd h.2
+
+  cut : (report : Option Report) (fault : Option Fault) → Said 5 report fault → IsWritingCut texts all before after report fault
+  cut (Some r) None h = (h.0, h.1, inl (r, refl, refl, h.2.0, h.2.1))
+  cut None (Some f) h = (h.0, h.1, inr (f, refl, refl, h.2.0, h.2.1))
+  cut None None h = absurd h.2
+  cut (Some r) (Some f) h = absurd h.2
+
+  spent : (report : Option Report) (fault : Option Fault) → Said 6 report fault → IsMemorySpent texts all before after report fault
+  spent None None h = (refl, refl, inr h)
+  spent None (Some f) h = absurd h.2
+  spent (Some r) f h = absurd h.2
+
+  pub report_printed : (status : ℕ) (report : Option Report) (fault : Option Fault) → EndsReading texts all before after status report fault → status ≡ 0 → IsReportPrinted texts all before after report fault
+  report_printed status report fault h e = printed report fault (said status 0 report fault e (λ x. omega (arith, x)) (λ x. omega (arith, x)) (λ x. omega (arith, x)) h)
+
+  pub fault_printed : (status : ℕ) (report : Option Report) (fault : Option Fault) → EndsReading texts all before after status report fault → status ≡ 1 → IsFaultPrinted all before after report fault
+  fault_printed status report fault h e = faulted report fault (said status 1 report fault e (λ x. omega (arith, x)) (λ x. omega (arith, x)) (λ x. omega (arith, x)) h)
+
+  pub writing_cut : (status : ℕ) (report : Option Report) (fault : Option Fault) → EndsReading texts all before after status report fault → status ≡ 5 → IsWritingCut texts all before after report fault
+  writing_cut status report fault h e = cut report fault (said status 5 report fault e (λ x. omega (arith, x)) (λ x. omega (arith, x)) (λ x. omega (arith, x)) h)
+
+  pub no_input : (status : ℕ) (report : Option Report) (fault : Option Fault) → EndsReading texts all before after status report fault → status ≡ 3 → IsNoInput all × IsBare before after report fault
+  no_input status report fault (inl h) e = absurd (omega (arith, h.0, e))
+  no_input status report fault (inr (inl h)) e = (h.1, h.2)
+  no_input status report fault (inr (inr (inl h))) e = absurd (omega (arith, h.0, e))
+  no_input status report fault (inr (inr (inr h))) e = absurd (subst (λ s. Answers texts h.0 before after s report fault) e h.2)
+
+  pub memory_spent : (status : ℕ) (report : Option Report) (fault : Option Fault) → EndsReading texts all before after status report fault → status ≡ 6 → IsMemorySpent texts all before after report fault
+  memory_spent status report fault (inl h) e = absurd (omega (arith, h.0, e))
+  memory_spent status report fault (inr (inl h)) e = absurd (omega (arith, h.0, e))
+  memory_spent status report fault (inr (inr (inl h))) e = (h.1.1, h.1.2, inl h.1.0)
+  memory_spent status report fault (inr (inr (inr h))) e = spent report fault (h.0, h.1, subst (λ s. Answers texts h.0 before after s report fault) e h.2)
+
+  pub refused : (status : ℕ) (report : Option Report) (fault : Option Fault) → EndsReading texts all before after status report fault → IsNoInput all → (status ≡ 3) ⊎ IsCutShort status
+  refused status report fault (inl h) none = inr (inl h.0)
+  refused status report fault (inr (inl h)) none = inl h.0
+  refused status report fault (inr (inr (inl h))) none = inr (inr (inr h.0))
+  refused status report fault (inr (inr (inr h))) none = absurd (none h.0 h.1)
+
+  -- an answer to parts that are of no form that is built
+  unbuilt : (parts : Parts) (status : ℕ) (report : Option Report) (fault : Option Fault) → is_built parts ≡ false → Answers texts parts before after status report fault → (status ≡ 1) ⊎ IsCutShort status
+  unbuilt parts zero (Some r) None other h = absurd (true≢false (sym h.0.1 ∙ other))
+  unbuilt parts zero None fault other h = absurd h
+  unbuilt parts zero (Some r) (Some f) other h = absurd h
+  unbuilt parts (suc zero) report fault other h = inl refl
+  unbuilt parts (suc (suc zero)) report fault other h = absurd h
+  unbuilt parts (suc (suc (suc zero))) report fault other h = absurd h
+  unbuilt parts (suc (suc (suc (suc zero)))) report fault other h = absurd h
+  unbuilt parts (suc (suc (suc (suc (suc zero))))) report fault other h = inr (inr (inl refl))
+  unbuilt parts (suc (suc (suc (suc (suc (suc zero)))))) report fault other h = inr (inr (inr refl))
+  unbuilt parts (suc (suc (suc (suc (suc (suc (suc n))))))) report fault other h = absurd h
+
+  pub not_built : (status : ℕ) (report : Option Report) (fault : Option Fault) → EndsReading texts all before after status report fault → (parts : Parts) → IsInput all parts → is_built parts ≡ false → (status ≡ 1) ⊎ IsCutShort status
+  not_built status report fault (inl h) parts input other = inr (inl h.0)
+  not_built status report fault (inr (inl h)) parts input other = absurd (h.1 parts input)
+  not_built status report fault (inr (inr (inl h))) parts input other = inr (inr (inr h.0))
+  not_built status report fault (inr (inr (inr h))) parts input other = unbuilt h.0 status report fault (ap is_built (one_input all h.0 parts h.1 input) ∙ other) h.2
