@@ -1,7 +1,7 @@
 -- Lists that loops read: one element more, the last one, and what stops them. `xs` was read before.
 use Rattle.std.proofs.Common.{◌≡◌, ℕ, suc, ◌-◌, ◌<◌, Bool, true, false, List, [], ◌∷◌, ◌++◌, Option, Some, None, length, cond, refl, ap, sym, ◌∙◌, append-nil, arith}
 use Rattle.std.proofs.lemmas.Bool.{eqb-true}
-use Rattle.std.specs.Prelude.{Result, Ok, Err, nat_eq}
+use Rattle.std.specs.Prelude.{Result, Ok, Err, nat_eq, option_map, is_some}
 use Rattle.token_trees.specs.declared.token.Span.{Span}
 use Rattle.token_trees.specs.declared.token.TokenTree.{TokenTree}
 use Rattle.token_trees.specs.Token.{Tok}
@@ -52,6 +52,18 @@ pub segments_refused : (n : ℕ) (at : Span) (xs : List SegmentD) (ts : List Tok
 segments_refused n at xs ts f p h = first_refused f xs ((levels n).segments at ts) (refused_is f _ _ (segments_level n at ts p) (segments_stop (levels (n - 1)) at ts f h))
 
 -- bounds
+
+stands : {A : Type 0} → (view : A → List Tok) (b : Bool) (ts : List Tok) (r : Option A) → option_map view r ≡ cond b (Some ts) None → b ≡ is_some r
+stands view true ts (Some x) e = refl
+stands view true ts None e = cc
+stands view false ts (Some x) e = cc
+stands view false ts None e = refl
+
+-- whether a character stands next, by what stands behind it
+pub sign_stands : {A : Type 0} → (view : A → List Tok) (c : ℕ) (ts : List Tok) (r : Option A) → option_map view r ≡ sign_front c ts → sign_next c ts ≡ is_some r
+sign_stands view c [] None e = refl
+sign_stands view c [] (Some x) e = cc
+sign_stands view c (t ∷ ts) r e = stands view (is_sign c t) ts r e
 
 bounds_none : (r : Readers) (at : Span) (ts : List Tok) → bound_next ts ≡ false → sign_next 43 ts ≡ false → bounds_body r at ts ≡ Ok ([], ts)
 unfolding bounds_body

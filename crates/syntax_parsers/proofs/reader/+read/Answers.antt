@@ -1,16 +1,17 @@
 -- The loops of the readers: what was read before, and one element more.
 use Rattle.std.proofs.Common.{◌≡◌, ◌-◌, ◌<◌, Bool, true, false, List, [], ◌∷◌, ◌++◌, map, length, refl, ap, sym, ◌∙◌, arith, rules}
-use Rattle.std.specs.Prelude.{Result, Ok, nat_eq}
+use Rattle.std.specs.Prelude.{Result, Ok, nat_eq, is_some}
 use Rattle.std.proofs.lemmas.List.{map_push}
 use Rattle.token_trees.specs.View.{trees}
 use Rattle.syntax_trees.specs.Syntax.{TyD, SegmentD, BoundD, GenericD}
 use Rattle.syntax_trees.specs.View.{ty, expr, segment_view, bound_view, generic_view}
+use Rattle.syntax_trees.specs.Metas.{sign_next}
 use Rattle.syntax_parsers.specs.Answer.{with_first}
 use Rattle.syntax_parsers.specs.Fronts.{bound_next}
 use Rattle.syntax_parsers.specs.Read.{levels}
 use Rattle.syntax_parsers.proofs.Lengths.{length_nothing, length_something}
 use Rattle.syntax_parsers.proofs.Refused.{refused_is, answers_is, answers_err}
-use Rattle.syntax_parsers.proofs.Loops.{segments_on, segments_end, segments_refused, bounds_over, bounds_on, bounds_end, bounds_refused, generics_over, generics_on, generics_end, generics_refused, generics_unended, tys_over, tys_on, tys_end, tys_comma_end, tys_refused, tys_unended}
+use Rattle.syntax_parsers.proofs.Loops.{segments_on, segments_end, segments_refused, bounds_over, bounds_plus, sign_stands, bounds_on, bounds_end, bounds_refused, generics_over, generics_on, generics_end, generics_refused, generics_unended, tys_over, tys_on, tys_end, tys_comma_end, tys_refused, tys_unended}
 use Rattle.syntax_parsers.proofs.reader.+read.Goals as goal
 
 pub read_segments-returns-in_err-one : goal.read_segments-returns-in_err-one
@@ -31,6 +32,20 @@ read_segments-segments-preserved t c =
       c.segments.invariant.1 ∙ segments_on c.segments.depth c.args.at (map segment_view c.segments.found.items) (trees c.segments.left.now) (trees c.in_ok-one.rest.now) (trees c.in-Some.behind.now) (segment_view c.in_ok-one.one) c.segments-test.true c.in_ok-one.ensures c.in-Some.ensures
           ∙ ap (λ (ys : List SegmentD). with_first ys ((levels (c.segments.depth - 1)).segments c.args.at (trees c.in-Some.behind.now))) (sym pushed),
     )
+
+pub read_bounds-returns-then-is_some : goal.read_bounds-returns-then-is_some
+read_bounds-returns-then-is_some t c =
+    let next : bound_next (trees c.bounds.left.now) ≡ false = search rules in
+    let found : is_some c.after_sign.result ≡ true = search rules in
+    let plus : sign_next 43 (trees c.bounds.left.now) ≡ true = sign_stands (λ x. trees x.now) 43 (trees c.bounds.left.now) c.after_sign.result c.after_sign.ensures ∙ found in
+    refused_is c.missing_at.result _ _ (c.bounds.invariant.1 ∙ bounds_plus c.bounds.depth c.args.at (map bound_view c.bounds.found.items) (trees c.bounds.left.now) c.bounds-test.true next plus) (rw c.missing_at.ensures refl)
+
+pub read_bounds-returns-then-not-is_at_bound : goal.read_bounds-returns-then-not-is_at_bound
+read_bounds-returns-then-not-is_at_bound t c =
+    let next : bound_next (trees c.bounds.left.now) ≡ false = search rules in
+    let found : is_some c.after_sign.result ≡ false = search rules in
+    let none : sign_next 43 (trees c.bounds.left.now) ≡ false = sign_stands (λ x. trees x.now) 43 (trees c.bounds.left.now) c.after_sign.result c.after_sign.ensures ∙ found in
+    c.bounds.invariant.1 ∙ bounds_over c.bounds.depth c.args.at (map bound_view c.bounds.found.items) (trees c.bounds.left.now) c.bounds-test.true next none
 
 pub read_bounds-returns-in_err-one : goal.read_bounds-returns-in_err-one
 read_bounds-returns-in_err-one t c =
