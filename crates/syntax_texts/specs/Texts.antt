@@ -3,7 +3,8 @@ use Rattle.std.specs.Prelude.{◌≡◌, ◌⊎◌, ℕ, List, Result, Err}
 use Rattle.std.specs.Str.{chars}
 use Rattle.token_trees.specs.declared.token.Span.{Span}
 use Rattle.token_trees.specs.Token.{Tok}
-use Rattle.rust_tokens.specs.Reading.{IsLexed, IsFirstFault}
+use Rattle.rust_tokens.specs.Faults.{IsFirstFault}
+use Rattle.rust_tokens.specs.Reading.{IsLexed}
 use Rattle.syntax_trees.specs.Syntax.{LitStrD}
 use Rattle.syntax_trees.specs.declared.cursor.SyntaxKind.TheVariants.{Lex}
 use Rattle.syntax_trees.specs.declared.cursor.SyntaxError.{SyntaxError}
