@@ -1,5 +1,5 @@
 //! Texts with their trees or their first fault, from the rules by hand.
-use crate::{Delimiter, LexError, Lit, Spacing, Span, TokenStream, TokenTree, lex};
+use crate::{Delimiter, LexError, Lit, Spacing, Span, TokenStream, TokenTree, lex, respan};
 use std::alloc::{AllocError, Global};
 use std::process::Abort;
 
@@ -402,16 +402,19 @@ fn open_brackets_have_no_limit(rt: HostRuntime) -> Result<(), AllocError> {
     Ok(())
 }
 
-// What drops a tree and what prints it go down its groups: deeper ones want more stack than an unoptimized build has.
+// Deep groups want no deep stack.
 #[test]
 fn groups_are_read_in_groups(rt: HostRuntime) -> Result<(), AllocError> {
-    let opening = copies(rt.alloc(), "([", 2000)?;
-    let closing = copies(rt.alloc(), "])", 2000)?;
+    let opening = copies(rt.alloc(), "([", 10000)?;
+    let closing = copies(rt.alloc(), "])", 10000)?;
     let nested = format!(in rt.alloc(); "{opening}{closing}")?;
     match lex(rt.alloc(), &nested, SPAN) {
         Ok(stream) => {
             let printed = stream.text(rt.alloc())?;
-            assert_eq!(rt; printed.len(), 15999);
+            assert_eq!(rt; printed.len(), 79999);
+            let copy = stream.try_clone(rt.alloc())?;
+            let copied = respan(rt.alloc(), &copy, SPAN)?.text(rt.alloc())?;
+            assert_eq!(rt; copied.as_str(), printed.as_str());
         }
         Err(_) => assert!(rt; false, "nested brackets"),
     }

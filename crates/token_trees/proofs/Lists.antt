@@ -1,12 +1,7 @@
 -- Lists of token trees.
 use Rattle.std.proofs.Common.{◌≡◌, ◌-◌, List, [], ◌∷◌, map, length, Some, refl, ap, sym, ◌∙◌, arith}
 use Rattle.std.specs.List.{slice_get}
-use Rattle.token_trees.specs.declared.token.Span.{Span}
-use Rattle.token_trees.specs.Token.{Tok, tok, Toks, no_toks, toks_of, list_of, placed, all_placed, last_of}
-
-pub toks_of_placed : (s : Span) (ts : List Tok) → toks_of (map (placed s) ts) ≡ all_placed s (toks_of ts)
-toks_of_placed s [] = refl
-toks_of_placed s (t ∷ ts) = ap (λ us. tok (placed s t) us) (toks_of_placed s ts)
+use Rattle.token_trees.specs.Token.{Tok, tok, Toks, no_toks, toks_of, list_of, last_of}
 
 pub map_map : {A B C : Type 0} → (f : A → B) (g : B → C) (xs : List A) → map g (map f xs) ≡ map (λ x. g (f x)) xs
 map_map f g [] = refl

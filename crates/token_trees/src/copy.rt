@@ -1,10 +1,12 @@
 //! Copies of token trees.
-ghost use Rattle.std.specs.Prelude.{◌≡◌, IfOk, map};
-ghost use Rattle.token_trees.specs.Token.{placed};
-ghost use Rattle.token_trees.specs.View.{tree, trees, group_view, stream, fixed_view, name_view};
+ghost use Rattle.std.specs.Prelude.{◌≡◌, [], ◌∷◌, ◌++◌, IfOk, map};
+ghost use Rattle.token_trees.specs.Token.{placed, group, toks_of};
+ghost use Rattle.token_trees.specs.Marked.{chosen, marked, IsToken};
+ghost use Rattle.token_trees.specs.View.{tree, stream, fixed_view, name_view};
 
-use crate::token::{Group, Ident, Lit, Literal, Span, TokenStream, TokenTree};
+use crate::token::{Delimiter, Group, Ident, Lit, Literal, Punct, Span, TokenStream, TokenTree};
 use std::alloc::{AllocError, Global};
+use std::mem;
 
 impl Ident {
     pub fn try_clone(&self, alloc: Global) -> Result<Ident, AllocError>
@@ -36,86 +38,116 @@ impl Lit {
     }
 }
 
-#[cycle(copy)]
-fn copy_tree(alloc: Global, from: &TokenTree) -> Result<TokenTree, AllocError>
-    ensures { IfOk result (λ t. tree t ≡ tree from.now) }
+// The span that is given, or else the token's own.
+fn chosen_span(given: Option<Span>, own: Span) -> Span
+    ensures { result ≡ chosen given own }
 {
-    match from {
-        TokenTree::Ident(name) => Ok(TokenTree::Ident(name.try_clone(alloc)?)),
-        TokenTree::Punct(punct) => Ok(TokenTree::Punct(*punct)),
-        TokenTree::Literal(literal) => Ok(TokenTree::Literal(Literal {
-            lit: literal.lit.try_clone(alloc)?,
-            span: literal.span,
-        })),
-        TokenTree::Group(group) => Ok(TokenTree::Group(copy_group(alloc, group)?)),
+    match given {
+        Some(span) => span,
+        None => own,
     }
 }
 
-#[cycle(copy)]
-fn copy_group(alloc: Global, from: &Group) -> Result<Group, AllocError>
-    ensures { IfOk result (λ g. group_view g ≡ group_view from.now) }
-{
-    Ok(Group {
-        delimiter: from.delimiter,
-        stream: copy_stream(alloc, &from.stream)?,
-        span: from.span,
-    })
-}
-
-#[cycle(copy)]
-fn copy_stream(alloc: Global, from: &TokenStream) -> Result<TokenStream, AllocError>
-    ensures { IfOk result (λ s. stream s ≡ stream from.now) }
-{
-    let mut trees = Vec::with_capacity(alloc, from.trees.len())?;
-    for item in &from.trees {
-        trees.push(copy_tree(alloc, item)?)?;
-    }
-    Ok(TokenStream { trees })
-}
-
-impl TokenStream {
-    pub fn try_clone(&self, alloc: Global) -> Result<TokenStream, AllocError>
-        ensures { IfOk result (λ s. stream s ≡ stream self.now) }
-    {
-        copy_stream(alloc, self)
-    }
-}
-
-#[cycle(respan)]
-#[tactic(auto, using(crate::proofs::Lists::toks_of_placed, crate::proofs::Lists::map_map))]
-fn respan_tree(alloc: Global, from: &TokenTree, span: Span) -> Result<TokenTree, AllocError>
-    ensures { IfOk result (λ t. tree t ≡ placed span (tree from.now)) }
+// A tree that is no group.
+fn copy_token(alloc: Global, from: &TokenTree, span: Option<Span>) -> Result<TokenTree, AllocError>
+    requires { IsToken (tree from.now) }
+    ensures { IfOk result (λ t. tree t ≡ marked span (tree from.now)) }
 {
     match from {
         TokenTree::Ident(name) => Ok(TokenTree::Ident(Ident {
             text: String::from_str(alloc, &name.text)?,
-            span,
+            span: chosen_span(span, name.span),
         })),
-        TokenTree::Punct(punct) => {
-            let mut copy = *punct;
-            copy.span = span;
-            Ok(TokenTree::Punct(copy))
-        }
+        TokenTree::Punct(punct) => Ok(TokenTree::Punct(Punct {
+            ch: punct.ch,
+            spacing: punct.spacing,
+            span: chosen_span(span, punct.span),
+        })),
         TokenTree::Literal(literal) => Ok(TokenTree::Literal(Literal {
             lit: literal.lit.try_clone(alloc)?,
-            span,
+            span: chosen_span(span, literal.span),
         })),
-        TokenTree::Group(group) => Ok(TokenTree::Group(Group {
-            delimiter: group.delimiter,
-            stream: respan(alloc, &group.stream, span)?,
-            span,
-        })),
+        TokenTree::Group(_) => unreachable!(),
     }
 }
 
-#[cycle(respan)]
-#[tactic(auto, using(crate::proofs::Lists::toks_of_placed, crate::proofs::Lists::map_map))]
+// What stands round a group that is being copied: the copies of the trees before it, the trees behind it, and its own
+// brackets and span.
+#[derive(Drop)]
+struct Level<'a> {
+    copied: TokenStream,
+    left: &'a [TokenTree],
+    delimiter: Delimiter,
+    span: Span,
+}
+
+impl Level<'_> {
+    // The trees before the group and the group, which has those trees.
+    fn closed(self, inner: TokenStream) -> Result<TokenStream, AllocError>
+        ensures { IfOk result (λ s. stream s ≡ stream self.entry.copied ++ group self.entry.delimiter (toks_of (stream inner)) self.entry.span ∷ []) }
+    {
+        let Level {
+            mut copied,
+            delimiter,
+            span,
+            ..
+        } = self;
+        copied.push(TokenTree::Group(Group {
+            delimiter,
+            stream: inner,
+            span,
+        }))?;
+        Ok(copied)
+    }
+}
+
+// The trees of a stream, with that span at every level where one is given. The groups that are open stand in a list, so
+// that deep groups want no deep stack.
+fn copy_stream(
+    alloc: Global,
+    from: &TokenStream,
+    span: Option<Span>,
+) -> Result<TokenStream, AllocError>
+    ensures { IfOk result (λ s. stream s ≡ map (marked span) (stream from.now)) }
+{
+    let mut levels: Vec<Level> = Vec::new(alloc);
+    let mut copied = TokenStream::new(alloc);
+    let mut left = from.trees();
+    loop {
+        if let Some((tree, rest)) = left.split_first() {
+            if let TokenTree::Group(group) = tree {
+                levels.push(Level {
+                    copied: mem::replace(&mut copied, TokenStream::new(alloc)),
+                    left: rest,
+                    delimiter: group.delimiter,
+                    span: chosen_span(span, group.span),
+                })?;
+                left = group.stream.trees();
+            } else {
+                copied.push(copy_token(alloc, tree, span)?)?;
+                left = rest;
+            }
+        } else if let Some(level) = levels.pop() {
+            left = level.left;
+            copied = level.closed(copied)?;
+        } else {
+            return Ok(copied);
+        }
+    }
+}
+
+impl TokenStream {
+    /// The same trees with their spans, or no memory.
+    pub fn try_clone(&self, alloc: Global) -> Result<TokenStream, AllocError>
+        ensures { IfOk result (λ s. stream s ≡ stream self.now) }
+    {
+        copy_stream(alloc, self, None)
+    }
+}
+
+/// The same trees with that span at every level, or no memory.
 pub fn respan(alloc: Global, from: &TokenStream, span: Span) -> Result<TokenStream, AllocError>
     ensures { IfOk result (λ s. stream s ≡ map (placed span) (stream from.now)) }
 {
-    let mut trees = Vec::with_capacity(alloc, from.trees.len())?;
-    for item in &from.trees {
-        trees.push(respan_tree(alloc, item, span)?)?;
-    }
-    Ok(TokenStream { trees })
+    copy_stream(alloc, from, Some(span))
 }

@@ -1,35 +1,12 @@
 //! The text of token trees: one space between any two tokens, but none after a joint character.
 ghost use Rattle.std.specs.Prelude.{◌≡◌, OnOk, IfOk, true, false, ◌++◌, ◌∷◌, [], string_bytes, encode_utf8, flat_map};
 ghost use Rattle.std.specs.Str.{chars};
-ghost use Rattle.token_trees.specs.View.{tree as tree_view, group_view, fixed_view, stream as stream_view};
-ghost use Rattle.token_trees.specs.Text.{opens, closes, pieces, pieces_of, spelling, fixed_spelling, constant, opening, closing, is_joint_spacing, gap, spaced, tight_after, text_of, escaped};
+ghost use Rattle.token_trees.specs.View.{tree as tree_view, fixed_view, stream as stream_view};
+ghost use Rattle.token_trees.specs.Text.{pieces_of, fixed_spelling, is_joint_spacing, gap, spaced, tight_after, text_of, escaped};
+ghost use Rattle.token_trees.specs.Brackets.{opening_pieces, closing_pieces, first_pieces};
 
-use crate::token::{Delimiter, Group, Lit, Spacing, TokenStream, TokenTree};
+use crate::token::{Delimiter, Lit, Spacing, TokenStream, TokenTree};
 use std::alloc::{AllocError, Global};
-
-// The bracket that opens a group.
-fn opening_text(delimiter: Delimiter) -> &'static str
-    ensures { result.now ≡ opening delimiter }
-{
-    match delimiter {
-        Delimiter::Parenthesis => "(",
-        Delimiter::Brace => "{",
-        Delimiter::Bracket => "[",
-        Delimiter::None => "",
-    }
-}
-
-// The bracket that closes a group.
-fn closing_text(delimiter: Delimiter) -> &'static str
-    ensures { result.now ≡ closing delimiter }
-{
-    match delimiter {
-        Delimiter::Parenthesis => ")",
-        Delimiter::Brace => "}",
-        Delimiter::Bracket => "]",
-        Delimiter::None => "",
-    }
-}
 
 // Whether the character after it follows at once.
 fn is_tight(spacing: Spacing) -> bool
@@ -133,44 +110,80 @@ impl Printer {
         self.tight = false;
         Ok(())
     }
-}
 
-#[cycle(text)]
-fn print_tree(tree: &TokenTree, out: &mut Printer) -> Result<(), AllocError>
-    ensures text { OnOk result (string_bytes out.new.text ≡ string_bytes out.old.text ++ spaced out.old.tight (pieces (tree_view tree.now))) }
-    ensures tight { OnOk result (out.new.tight ≡ tight_after out.old.tight (pieces (tree_view tree.now))) }
-{
-    match tree {
-        TokenTree::Ident(name) => out.plain(&name.text, false),
-        TokenTree::Punct(punct) => out.sign(punct.ch, punct.spacing),
-        TokenTree::Literal(literal) => out.literal(&literal.lit),
-        TokenTree::Group(group) => print_group(group, out),
+    // The bracket that opens a group, where one shows.
+    fn open(&mut self, delimiter: Delimiter) -> Result<(), AllocError>
+        ensures text { OnOk result (string_bytes self.new.text ≡ string_bytes self.old.text ++ spaced self.old.tight (opening_pieces delimiter)) }
+        ensures tight { OnOk result (self.new.tight ≡ tight_after self.old.tight (opening_pieces delimiter)) }
+    {
+        match delimiter {
+            Delimiter::Parenthesis => self.plain("(", false),
+            Delimiter::Brace => self.plain("{", false),
+            Delimiter::Bracket => self.plain("[", false),
+            Delimiter::None => Ok(()),
+        }
     }
-}
 
-#[cycle(text)]
-fn print_group(group: &Group, out: &mut Printer) -> Result<(), AllocError>
-    ensures text { OnOk result (string_bytes out.new.text ≡ string_bytes out.old.text ++ spaced out.old.tight (pieces (group_view group.now))) }
-    ensures tight { OnOk result (out.new.tight ≡ tight_after out.old.tight (pieces (group_view group.now))) }
-{
-    match group.delimiter {
-        Delimiter::None => print_stream(&group.stream, out),
-        delimiter => {
-            out.plain(opening_text(delimiter), false)?;
-            print_stream(&group.stream, out)?;
-            out.plain(closing_text(delimiter), false)?;
-            Ok(())
+    // The bracket that closes a group, where one shows.
+    fn close(&mut self, delimiter: Delimiter) -> Result<(), AllocError>
+        ensures text { OnOk result (string_bytes self.new.text ≡ string_bytes self.old.text ++ spaced self.old.tight (closing_pieces delimiter)) }
+        ensures tight { OnOk result (self.new.tight ≡ tight_after self.old.tight (closing_pieces delimiter)) }
+    {
+        match delimiter {
+            Delimiter::Parenthesis => self.plain(")", false),
+            Delimiter::Brace => self.plain("}", false),
+            Delimiter::Bracket => self.plain("]", false),
+            Delimiter::None => Ok(()),
+        }
+    }
+
+    // A token, or the bracket that opens a group.
+    fn begin(&mut self, tree: &TokenTree) -> Result<(), AllocError>
+        ensures text { OnOk result (string_bytes self.new.text ≡ string_bytes self.old.text ++ spaced self.old.tight (first_pieces (tree_view tree.now))) }
+        ensures tight { OnOk result (self.new.tight ≡ tight_after self.old.tight (first_pieces (tree_view tree.now))) }
+    {
+        match tree {
+            TokenTree::Ident(name) => self.plain(&name.text, false),
+            TokenTree::Punct(punct) => self.sign(punct.ch, punct.spacing),
+            TokenTree::Literal(literal) => self.literal(&literal.lit),
+            TokenTree::Group(group) => self.open(group.delimiter),
         }
     }
 }
 
-#[cycle(text)]
-fn print_stream(stream: &TokenStream, out: &mut Printer) -> Result<(), AllocError>
+// The trees that are left of a group that is being printed, and its brackets. The outermost trees stand in none.
+#[derive(Clone, Copy)]
+struct Level<'a> {
+    left: &'a [TokenTree],
+    delimiter: Delimiter,
+}
+
+// The trees of a stream, level by level: the levels that are open stand in a list, so that deep groups want no deep stack.
+fn print_stream(alloc: Global, stream: &TokenStream, out: &mut Printer) -> Result<(), AllocError>
     ensures text { OnOk result (string_bytes out.new.text ≡ string_bytes out.old.text ++ spaced out.old.tight (pieces_of (stream_view stream.now))) }
     ensures tight { OnOk result (out.new.tight ≡ tight_after out.old.tight (pieces_of (stream_view stream.now))) }
 {
-    for item in &stream.trees {
-        print_tree(item, out)?;
+    let mut levels = Vec::new(alloc);
+    levels.push(Level {
+        left: &stream.trees,
+        delimiter: Delimiter::None,
+    })?;
+    while let Some(Level { left, delimiter }) = levels.pop() {
+        let Some((tree, rest)) = left.split_first() else {
+            out.close(delimiter)?;
+            continue;
+        };
+        out.begin(tree)?;
+        levels.push(Level {
+            left: rest,
+            delimiter,
+        })?;
+        if let TokenTree::Group(group) = tree {
+            levels.push(Level {
+                left: &group.stream.trees,
+                delimiter: group.delimiter,
+            })?;
+        }
     }
     Ok(())
 }
@@ -185,7 +198,7 @@ impl TokenStream {
             text: String::new(alloc),
             tight: true,
         };
-        print_stream(self, &mut printer)?;
+        print_stream(alloc, self, &mut printer)?;
         Ok(printer.text)
     }
 }

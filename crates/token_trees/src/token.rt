@@ -75,7 +75,41 @@ pub enum TokenTree {
 
 /// Token trees in order.
 #[cycle(tree)]
-#[derive(Drop)]
 pub struct TokenStream {
     pub(crate) trees: Vec<TokenTree>,
+}
+
+impl TokenStream {
+    ghost use Rattle.std.specs.Prelude.{◌≡◌};
+    ghost use Rattle.token_trees.specs.View.{trees as trees_view, stream};
+    ghost use Rattle.token_trees.specs.declared.token.TokenStream.{out-TokenStream};
+
+    // The trees themselves.
+    fn into_trees(self) -> Vec<TokenTree>
+        ensures trees { trees_view result.items ≡ stream self }
+        ensures same { result ≡ (out-TokenStream self).trees }
+    {
+        let TokenStream { trees } = self;
+        trees
+    }
+}
+
+// One tree after the other: the trees of a group take its place, so that deep groups want no deep stack. Only where no
+// memory is left for them are they dropped in the group.
+impl Drop for TokenStream {
+    #[cycle(tree)]
+    fn drop(self) {
+        let TokenStream { trees } = self;
+        let mut left = trees;
+        while let Some(tree) = left.pop() {
+            match tree {
+                TokenTree::Group(group) => {
+                    let Group { stream, .. } = group;
+                    let mut inner = stream.into_trees();
+                    let _ = left.append(&mut inner);
+                }
+                _leaf => {}
+            }
+        }
+    }
 }
