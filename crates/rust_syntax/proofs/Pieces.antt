@@ -5,7 +5,8 @@ use Rattle.token_trees.specs.Token.{Tok}
 use Rattle.syntax_trees.specs.Syntax.{TyD, BoundD, tys_of, bounds_of}
 use Rattle.syntax_trees.specs.Item.{ParamD, PredicateD}
 use Rattle.syntax_printing.specs.Print.{is_one, sign, keyword, print_bounds}
-use Rattle.rust_syntax.specs.PrintItem.{print_bounded, print_params, print_angle, print_predicates, print_where}
+use Rattle.syntax_printing.specs.PrintPredicates.{print_predicates}
+use Rattle.rust_syntax.specs.PrintItem.{print_bounded, print_params, print_angle, print_where}
 
 pub assoc : {A : Type 0} → (xs ys zs : List A) → (xs ++ ys) ++ zs ≡ xs ++ (ys ++ zs)
 assoc xs ys zs = append_assoc xs ys zs

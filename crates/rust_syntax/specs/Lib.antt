@@ -1,4 +1,5 @@
 pub use Rattle.syntax_printing.specs.Print
+pub use Rattle.syntax_printing.specs.PrintPredicates
 pub mod PrintItem
 pub use Rattle.syntax_trees.specs.Syntax
 pub use Rattle.syntax_trees.specs.View
@@ -6,3 +7,5 @@ pub use Rattle.syntax_trees.specs.Item
 pub use Rattle.syntax_trees.specs.Metas
 pub use Rattle.syntax_parsers.specs.Whole
 pub use Rattle.syntax_texts.specs.Texts
+pub use Rattle.syntax_laws.specs.Predicates
+pub use Rattle.syntax_laws.specs.TextSpelling

@@ -2,9 +2,10 @@
 use Rattle.std.specs.Prelude.{List, [], ◌∷◌, ◌++◌, Bool, true, false, Option, Some, None, codes}
 use Rattle.token_trees.specs.declared.token.Delimiter.TheVariants.{Parenthesis}
 use Rattle.token_trees.specs.Token.{Tok, word, group, toks_of, Name}
-use Rattle.syntax_trees.specs.Syntax.{BoundD, bounds_of, LifetimeD}
-use Rattle.syntax_trees.specs.Item.{MetaD, meta_path, meta_list, meta_value, FieldD, FieldsD, named_fields, unnamed_fields, unit_fields, VariantD, ParamD, param_ty, param_lifetime, param_const, PredicateD, predicate_ty, predicate_lifetime, BodyD, struct_body, enum_body, union_body, ItemD}
+use Rattle.syntax_trees.specs.Syntax.{BoundD, bounds_of}
+use Rattle.syntax_trees.specs.Item.{MetaD, meta_path, meta_list, meta_value, FieldD, FieldsD, named_fields, unnamed_fields, unit_fields, VariantD, ParamD, param_ty, param_lifetime, param_const, PredicateD, BodyD, struct_body, enum_body, union_body, ItemD}
 use Rattle.syntax_printing.specs.Print.{sign, keyword, within_parens, within_brackets, within_braces, print_name, print_lifetime, when, print_ty, print_bounds, print_path}
+use Rattle.syntax_printing.specs.PrintPredicates.{print_predicates}
 
 abbrev pub print_meta : MetaD → List Tok
 print_meta (meta_path p) = print_path p
@@ -61,18 +62,6 @@ print_params comma (p ∷ ps) = when comma (sign 44 ∷ []) ++ print_param p ++ 
 abbrev pub print_angle : List ParamD → List Tok
 print_angle [] = []
 print_angle (p ∷ ps) = sign 60 ∷ print_params false (p ∷ ps) ++ (sign 62 ∷ [])
-
-abbrev pub print_lifetimes : Bool → List LifetimeD → List Tok
-print_lifetimes plus [] = []
-print_lifetimes plus (l ∷ ls) = when plus (sign 43 ∷ []) ++ print_lifetime l ++ print_lifetimes true ls
-
-abbrev pub print_predicate : PredicateD → List Tok
-print_predicate (predicate_ty t bs) = print_ty t ++ (sign 58 ∷ print_bounds false (bounds_of bs))
-print_predicate (predicate_lifetime l ls) = print_lifetime l ++ (sign 58 ∷ print_lifetimes false ls)
-
-abbrev pub print_predicates : Bool → List PredicateD → List Tok
-print_predicates comma [] = []
-print_predicates comma (p ∷ ps) = when comma (sign 44 ∷ []) ++ print_predicate p ++ print_predicates true ps
 
 -- the `where` clause, where there is one
 abbrev pub print_where : List PredicateD → List Tok

@@ -5,7 +5,8 @@ ghost use Rattle.token_trees.specs.View.{stream};
 ghost use Rattle.syntax_trees.specs.View.{ty, path_view, segment_view, arguments_view, generic_view, qself_view, expr, expr_path_view, bound_view, lifetime_view, member_view, lit_str_view};
 ghost use Rattle.syntax_trees.specs.Item.{meta_view, attribute_view, field_view, fields_view, variant_view, param_view, predicate_view, body_view, item_view};
 ghost use Rattle.syntax_printing.specs.Print.{print_ty, print_path, print_segment, print_arguments, print_generic, print_qself, print_expr, print_expr_path, print_bound, print_lifetime, print_member, print_lit_str};
-ghost use Rattle.rust_syntax.specs.PrintItem.{print_item, print_attribute, print_meta, print_body, print_fields, print_field, print_variant, print_angle, print_where, print_param, print_predicate};
+ghost use Rattle.syntax_printing.specs.PrintPredicates.{print_predicate};
+ghost use Rattle.rust_syntax.specs.PrintItem.{print_item, print_attribute, print_meta, print_body, print_fields, print_field, print_variant, print_angle, print_where, print_param};
 
 use crate::write::{
     write_arguments, write_bound, write_expr, write_expr_path, write_generic, write_lifetime,

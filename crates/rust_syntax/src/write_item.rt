@@ -6,7 +6,8 @@ ghost use Rattle.token_trees.specs.declared.token.Delimiter.TheVariants.{Parenth
 ghost use Rattle.syntax_trees.specs.View.{bound_view, lifetime_view, path_view, ty};
 ghost use Rattle.syntax_trees.specs.Item.{meta_view, attribute_view, field_view, fields_view, variant_view, param_view, predicate_view, body_view, item_view};
 ghost use Rattle.syntax_printing.specs.Print.{sign, within_parens, within_braces};
-ghost use Rattle.rust_syntax.specs.PrintItem.{print_meta, print_attribute, print_attributes, print_label, print_field, print_each_field, print_fields, print_variant, print_each_variant, print_bounded, print_param, print_params, print_angle, print_lifetimes, print_predicate, print_predicates, print_where, print_kind, print_struct_end, print_end, print_body, print_item};
+ghost use Rattle.syntax_printing.specs.PrintPredicates.{print_lifetimes, print_predicate, print_predicates};
+ghost use Rattle.rust_syntax.specs.PrintItem.{print_meta, print_attribute, print_attributes, print_label, print_field, print_each_field, print_fields, print_variant, print_each_variant, print_bounded, print_param, print_params, print_angle, print_where, print_kind, print_struct_end, print_end, print_body, print_item};
 
 use crate::write::{
     write_bounds, write_keyword, write_lifetime, write_name, write_path, write_separator,

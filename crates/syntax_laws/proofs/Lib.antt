@@ -1,6 +1,10 @@
 pub mod PredicatesExact
 pub mod PredicatesWorked
 pub mod TextsExact
+pub mod KindsExact
+pub mod PlacesExact
 pub mod Placing
 pub mod Printed
+pub mod PredicatesPrinted
+pub mod PredicatesMoved
 pub mod TextsWorked

@@ -27,7 +27,7 @@ use Rattle.syntax_laws.specs.TextSpelling.{Spelling, TextSpells, MayAnswer, Answ
 abbrev pub IsExact : {A : Type 0} → WholeReader A → Spelling A → Type 0
 IsExact {A} read Spells = (at : Span) (ts : List Tok) (x : A) → (read at ts ≡ Ok x) ↔ Spells ts x
 
-no_tokens : (l : LitStrD) (ts : List Tok) → IsLexed (chars l.text) l.span ts → HasNoTokens l → ⊥
+pub no_tokens : (l : LitStrD) (ts : List Tok) → IsLexed (chars l.text) l.span ts → HasNoTokens l → ⊥
 no_tokens l ts h n = lexed_has_no_fault (chars l.text) l.span ts n.0 h n.1.faulty
 
 reads_once : {A : Type 0} → (read : WholeReader A) (l : LitStrD) (x y : Result A SyntaxError) → ReadsText read l x → ReadsText read l y → x ≡ y
@@ -39,13 +39,13 @@ reads_spelled read Spells exact l x = (
   λ h. (h.0, h.1, (exact l.span h.0 x).1 h.2),
 )
 
-ok_not_err : {A : Type 0} → (x : A) (e : SyntaxError) → Err e ≡ got x → ⊥
+pub ok_not_err : {A : Type 0} → (x : A) (e : SyntaxError) → Err e ≡ got x → ⊥
 ok_not_err x e q = cc
 
 abbrev answer : {X : Type 0} → X → Result X ParseFault
 answer x = Ok x
 
-abbrev fault : {X : Type 0} → ParseFault → Result X ParseFault
+abbrev pub fault : {X : Type 0} → ParseFault → Result X ParseFault
 fault {X} e = Err e
 
 answer_same : {X : Type 0} → (x y : X) → answer x ≡ answer y → x ≡ y
@@ -54,7 +54,7 @@ answer_same x y e = cc
 fault_no_answer : {X : Type 0} → (e : ParseFault) (y : X) → fault e ≡ answer y → ⊥
 fault_no_answer e y q = cc
 
-answer_no_fault : {X : Type 0} → (x : X) (e : ParseFault) → answer x ≡ fault e → ⊥
+pub answer_no_fault : {X : Type 0} → (x : X) (e : ParseFault) → answer x ≡ fault e → ⊥
 answer_no_fault x e q = cc
 
 pub answered : {X A : Type 0} → (view : X → A) (read : WholeReader A) (Spells : Spelling A) → IsExact read Spells → AnsweredExactly view read Spells
@@ -88,10 +88,10 @@ answered {X} {A} view read Spells exact l (Err (Syntax e)) m n = (
       | inr k ↦ ap (λ z. fault (Syntax z)) k.1
     ]
 
-no_memory : {X : Type 0} → (e : SyntaxError) → fault {X = X} (Syntax e) ≡ Err Memory → ⊥
+pub no_memory : {X : Type 0} → (e : SyntaxError) → fault {X = X} (Syntax e) ≡ Err Memory → ⊥
 no_memory e q = cc
 
-syntax_same : {X : Type 0} → (e f : SyntaxError) → fault {X = X} (Syntax e) ≡ Err (Syntax f) → e ≡ f
+pub syntax_same : {X : Type 0} → (e f : SyntaxError) → fault {X = X} (Syntax e) ≡ Err (Syntax f) → e ≡ f
 syntax_same e f q = cc
 
 pub answers_text : {X A : Type 0} → (view : X → A) (read : WholeReader A) (Spells : Spelling A) → IsExact read Spells

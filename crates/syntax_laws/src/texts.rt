@@ -1,4 +1,5 @@
 //! Laws of texts: the parsers of texts, by their clauses, answer exactly the trees that texts spell.
+ghost use Rattle.syntax_laws.specs.Kinds.{KindsTold, PlacesTold};
 ghost use Rattle.syntax_laws.specs.TextExamples.{WorkedTexts};
 ghost use Rattle.syntax_laws.specs.TextSpelling.{TypesAnsweredExactly, PathsAnsweredExactly, ExprPathsAnsweredExactly, PredicatesAnsweredExactly, LifetimesAnsweredExactly, TextsSpelledOnce};
 
@@ -25,6 +26,16 @@ pub fn predicates_are_answered_exactly()
 /// `parse_lifetimes` answers exactly the lifetimes that the text spells.
 pub fn lifetimes_are_answered_exactly()
     ensures { LifetimesAnsweredExactly }
+{}
+
+/// Each parser tells an error of kind `Lex` exactly where the text has no tokens, and of another kind only where it has some.
+pub fn kinds_are_told_exactly()
+    ensures { KindsTold }
+{}
+
+/// Each error of syntax that a parser tells stands at the literal.
+pub fn errors_stand_at_the_literal()
+    ensures { PlacesTold }
 {}
 
 /// A text spells at most one tree of a kind.

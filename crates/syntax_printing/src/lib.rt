@@ -1,2 +1,2 @@
-//! The tokens that types, paths and expressions are printed as: definitions alone, which printing and parsing both cite.
+//! The tokens that types, paths, expressions and predicates are printed as: definitions alone, which printing and parsing both cite.
 #![tactic(auto)]

@@ -13,7 +13,7 @@ use Rattle.syntax_printing.specs.Print.{is_one}
 use Rattle.syntax_parsers.specs.Fronts.{is_reserved}
 use Rattle.syntax_parsers.specs.Grammar.{gives_segment, gives_last, gives_path}
 use Rattle.syntax_parsers.specs.Spelling.{SignThen, PairThen, WordThen, NameThen, LifetimeThen, GroupThen, MaybeLifetimeThen, MutThen, ColonsThen, CloseThen, LastComma, ends_ty, ends_output, ends_path, ends_segments, ends_segment, ends_arguments, ends_bound, TyThen, OutputThen, TysThen, TysBehind, BoundThen, BoundsThen, BoundsBehind, PathThen, SegmentsThen, SegmentThen, ArgumentsThen, GenericsThen, GenericsBehind, GenericThen, ExprThen, ExprPathThen}
-use Rattle.syntax_parsers.specs.SpellingForm.{has_bounds, segments_count, is_last, IsGroup, IsConstant, TyForm, OutputForm, TysForm, BoundForm, BoundsForm, PathForm, SegmentsForm, SegmentForm, ArgumentsForm, GenericsForm, GenericForm, LengthForm, ExprPathForm, IsNoLiteral, IsNoPath, TyLengths, OutputLengths, TysLengths, BoundLengths, BoundsLengths, PathLengths, SegmentsLengths, SegmentLengths, ArgumentsLengths, GenericsLengths, GenericLengths, LengthHeld, ExprPathLengths, SpellsTy, SpellsPath, SpellsExprPath, SpellsBounds}
+use Rattle.syntax_parsers.specs.SpellingForm.{has_bounds, segments_count, is_last, IsGroup, IsConstant, TyForm, OutputForm, TysForm, BoundForm, BoundsForm, PathForm, SegmentsForm, SegmentForm, ArgumentsForm, GenericsForm, GenericForm, LengthForm, ExprPathForm, IsNoLiteral, IsNoPath, TyLengths, OutputLengths, TysLengths, BoundLengths, BoundsLengths, PathLengths, SegmentsLengths, SegmentLengths, ArgumentsLengths, GenericsLengths, GenericLengths, LengthHeld, ExprPathLengths, IsParsedTy, IsParsedBounds, SpellsTy, SpellsPath, SpellsExprPath, SpellsBounds}
 use Rattle.syntax_parsers.specs.SpellingAside.{name_at, lifetime_at, maybe_lifetime_at, output_at, tys_at, bound_at, bounds_at, path_at, segments_at, segment_at, arguments_at, generics_at, generic_at, expr_at, expr_path_at, SameToks, SameTy, SamePath, SameExprPath, SameBounds}
 use Rattle.syntax_parsers.proofs.spelling.Reach.{tys_count}
 
@@ -50,7 +50,7 @@ group_head d g r (mark c k s ∷ vs) e = absurd (cc)
 group_head d g r (fixed m s ∷ vs) e = absurd (cc)
 group_head d g r (group b h s ∷ vs) e = let i : b ≡ d = cc in let j : g ≡ all_placed site h = cc in let t : r ≡ bare vs = cc in (s, h, vs, ap (λ z. group z h s ∷ vs) i, j, t)
 
-none_head : (us : List Tok) → [] ≡ bare us → us ≡ []
+pub none_head : (us : List Tok) → [] ≡ bare us → us ≡ []
 none_head [] e = refl
 none_head (u ∷ us) e = absurd (cc)
 
@@ -60,7 +60,7 @@ inside (tok t g) = ap (λ z. placed site t ∷ z) (inside g)
 
 -- what stands in front
 
-sign_moved : (c : ℕ) (ts rest us : List Tok) → SignThen c ts rest → SameToks ts us → (vs : List Tok) × SignThen c us vs × SameToks rest vs
+pub sign_moved : (c : ℕ) (ts rest us : List Tok) → SignThen c ts rest → SameToks ts us → (vs : List Tok) × SignThen c us vs × SameToks rest vs
 sign_moved c ts rest us h k = let m = mark_head c h.0 (bare rest) us (sym (ap bare h.2) ∙ k) in (m.1, (h.0, m.0, m.2), m.3)
 
 word_moved : (x : List ℕ) (ts rest us : List Tok) → WordThen x ts rest → SameToks ts us → (vs : List Tok) × WordThen x us vs × SameToks rest vs
@@ -77,7 +77,7 @@ name_moved x ts rest us h k =
     let m = word_head x.text (bare rest) us (sym (ap bare h) ∙ k) in
     (record { text = x.text; span = m.0 }, m.1, m.2, refl, m.3)
 
-lifetime_moved : (l : LifetimeD) (ts rest us : List Tok) → LifetimeThen l ts rest → SameToks ts us → (k : LifetimeD) × (vs : List Tok) × LifetimeThen k us vs × (lifetime_at site l ≡ lifetime_at site k) × SameToks rest vs
+pub lifetime_moved : (l : LifetimeD) (ts rest us : List Tok) → LifetimeThen l ts rest → SameToks ts us → (k : LifetimeD) × (vs : List Tok) × LifetimeThen k us vs × (lifetime_at site l ≡ lifetime_at site k) × SameToks rest vs
 lifetime_moved l ts rest us h k =
     let m = mark_head 39 Joint (word l.name.text site ∷ bare rest) us (sym (ap bare h) ∙ k) in
     let n = word_head l.name.text (bare rest) m.1 m.3 in
@@ -88,7 +88,7 @@ group_moved d g ts rest us h k =
     let m = group_head d (all_placed site g) (bare rest) us (sym (ap bare h.1) ∙ k) in
     (m.1, m.2, (m.0, m.3), inside g ∙ ap list_of m.4 ∙ sym (inside m.1), m.5)
 
-same_moved : (ts rest us : List Tok) → ts ≡ rest → SameToks ts us → SameToks rest us
+pub same_moved : (ts rest us : List Tok) → ts ≡ rest → SameToks ts us → SameToks rest us
 same_moved ts rest us h k = sym (ap bare h) ∙ k
 
 append_moved : (m rest ts us : List Tok) → ts ≡ m ++ rest → SameToks ts us → (n : List Tok) × (vs : List Tok) × (us ≡ n ++ vs) × SameToks m n × SameToks rest vs
@@ -502,3 +502,10 @@ pub bounds_aside : (ts us : List Tok) (bs : Bounds) → SpellsBounds ts bs → S
 bounds_aside ts us bs h k =
     let a = bounds_moved bs ts [] us h.0.0 h.1 k in
     (a.0, ((a.3, a.7 kept h.0.1), subst (λ z. BoundsThen a.0 us z) (none_head a.1 a.2) a.4), a.5)
+
+-- what stands in front
+pub ty_front_aside : (ts rest us : List Tok) (t : TyD) → IsParsedTy t → TyThen t ts rest → SameToks ts us → (u : TyD) × (vs : List Tok) × IsParsedTy u × TyThen u us vs × SameTy t u × SameToks rest vs
+ty_front_aside ts rest us t f h k = let a = ty_moved t ts rest us f.0 h k in (a.0, a.1, (a.3, a.7 kept f.1), a.4, a.5, a.2)
+
+pub bounds_front_aside : (ts rest us : List Tok) (bs : Bounds) → IsParsedBounds bs → BoundsThen bs ts rest → SameToks ts us → (cs : Bounds) × (vs : List Tok) × IsParsedBounds cs × BoundsThen cs us vs × SameBounds bs cs × SameToks rest vs
+bounds_front_aside ts rest us bs f h k = let a = bounds_moved bs ts rest us f.0 h k in (a.0, a.1, (a.3, a.7 kept f.1), a.4, a.5, a.2)

@@ -1,7 +1,7 @@
 use Rattle.std.proofs.Common.{◌≡◌, ◌++◌, drop, map}
 use Rattle.token_trees.specs.View.{stream}
 use Rattle.syntax_trees.specs.View.{lifetime_view}
-use Rattle.rust_syntax.specs.PrintItem.{print_lifetimes}
+use Rattle.syntax_printing.specs.PrintPredicates.{print_lifetimes}
 use Rattle.rust_syntax.proofs.write_item.write_lifetimes.Given as goal
 
 abbrev pub invariant-loop-item : goal.invariant-loop-item

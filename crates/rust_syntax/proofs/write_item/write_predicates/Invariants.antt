@@ -1,7 +1,7 @@
 use Rattle.std.proofs.Common.{◌≡◌, ◌++◌, drop, map}
 use Rattle.token_trees.specs.View.{stream}
 use Rattle.syntax_trees.specs.Item.{predicate_view}
-use Rattle.rust_syntax.specs.PrintItem.{print_predicates}
+use Rattle.syntax_printing.specs.PrintPredicates.{print_predicates}
 use Rattle.rust_syntax.proofs.write_item.write_predicates.Given as goal
 
 abbrev pub invariant-loop-item : goal.invariant-loop-item

@@ -16,7 +16,7 @@ use Rattle.syntax_parsers.specs.Where.{some_predicates, predicates_body, predica
 use Rattle.syntax_parsers.specs.Whole.{predicates_of, type_of}
 use Rattle.syntax_parsers.specs.Worked.{name, sign, joint, plain, named, life}
 use Rattle.syntax_laws.specs.Predicates.{SpellsPredicates}
-use Rattle.syntax_laws.specs.TextExamples.{vector}
+use Rattle.syntax_laws.specs.TextExamples.{vector, two_predicates}
 use Rattle.syntax_laws.proofs.PredicatesExact.{predicates_exact}
 use Rattle.syntax_laws.proofs.TextsExact.{types_exact, lifetimes_exact}
 use Rattle.syntax_laws.proofs.TextsWorked.{Has, has_tokens, text_spelled, text_unspelled}
@@ -98,6 +98,14 @@ printed_text : Has (codes "Vec < A >") (name (codes "Vec") ∷ sign 60 ∷ name 
 unfolding unicode_ident encode chars
 printed_text = (refl, (3, refl, (1, refl, (1, refl, (1, refl, refl)))), (refl, (refl, (refl, (refl, tt)))))
 
+predicates_printed_text : Has (codes "Vec < A > : A , 'x : 'y") (name (codes "Vec") ∷ sign 60 ∷ name (codes "A") ∷ sign 62 ∷ sign 58 ∷ name (codes "A") ∷ sign 44 ∷ joint 39 ∷ name (codes "x") ∷ sign 58 ∷ joint 39 ∷ name (codes "y") ∷ [])
+unfolding unicode_ident encode chars
+predicates_printed_text = (refl, (3, refl, (1, refl, (1, refl, (1, refl, (1, refl, (1, refl, (1, refl, (1, refl, (1, refl, (1, refl, (1, refl, (1, refl, refl)))))))))))), (refl, (refl, (refl, (refl, (refl, (refl, (refl, (refl, (refl, (refl, (refl, (refl, tt)))))))))))))
+
+two_predicates_read : predicates_of site (name (codes "Vec") ∷ sign 60 ∷ name (codes "A") ∷ sign 62 ∷ sign 58 ∷ name (codes "A") ∷ sign 44 ∷ joint 39 ∷ name (codes "x") ∷ sign 58 ∷ joint 39 ∷ name (codes "y") ∷ []) ≡ Ok two_predicates
+unfolding predicates_of some_predicates predicates_body predicate_body lifetime_predicate type_predicate behind_predicate some_lifetimes lifetimes_body type_of levels output_body path_body trait_body behind_body qualified_body expr_path_body length_body bracketed_body reference_body pointer_body signature_body function_body some_bounds path_ty ty_body tys_body bound_body bounds_body arguments_body segment_body segments_body generic_body generics_body
+two_predicates_read = refl
+
 pub returns : goal.returns
 unfolding encode
 returns c = (
@@ -114,4 +122,9 @@ returns c = (
   refl,
   ((types_exact site (name (codes "Vec") ∷ sign 60 ∷ name (codes "A") ∷ sign 62 ∷ []) vector).0 vector_text_read).0,
   (codes "Vec < A >", site, (codes "Vec < A >", (refl, refl)), has_tokens (codes "Vec < A >") _ printed_text),
+  refl,
+  ((predicates_exact site (name (codes "Vec") ∷ sign 60 ∷ name (codes "A") ∷ sign 62 ∷ sign 58 ∷ name (codes "A") ∷ sign 44 ∷ joint 39 ∷ name (codes "x") ∷ sign 58 ∷ joint 39 ∷ name (codes "y") ∷ []) two_predicates).0 two_predicates_read).0,
+  (codes "Vec < A > : A , 'x : 'y", site, (codes "Vec < A > : A , 'x : 'y", (refl, refl)), has_tokens (codes "Vec < A > : A , 'x : 'y") _ predicates_printed_text),
+  refl,
+  (codes "'x + 'y", site, (codes "'x + 'y", (refl, refl)), has_tokens (codes "'x + 'y") _ lifetimes_text),
 )

@@ -4,7 +4,7 @@ use Rattle.syntax_laws.specs.Predicates.{SpellsPredicates}
 use Rattle.syntax_laws.specs.TextSpelling.{predicate_views}
 use Rattle.syntax_laws.proofs.PredicatesExact.{predicates_exact}
 use Rattle.syntax_laws.proofs.TextsExact.{answers_text}
-use Rattle.syntax_laws.proofs.answers.spelled_predicates.Goals as goal
+use Rattle.syntax_laws.proofs.answers.parse_where.Goals as goal
 
-pub returns : goal.returns
-returns c = answers_text predicate_views predicates_of SpellsPredicates predicates_exact (lit_str_view c.args.lit.now) c.parse_where.result (c.parse_where.ensures.predicates, c.parse_where.ensures.fault)
+pub returns-clause-spelled : goal.returns-clause-spelled
+returns-clause-spelled c = answers_text predicate_views predicates_of SpellsPredicates predicates_exact (lit_str_view c.args.lit.now) c.parse_where.result (c.parse_where.ensures.predicates, c.parse_where.ensures.fault)

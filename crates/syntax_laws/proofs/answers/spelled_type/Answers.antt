@@ -1,8 +1,0 @@
-use Rattle.syntax_trees.specs.View.{ty, lit_str_view}
-use Rattle.syntax_parsers.specs.SpellingForm.{SpellsTy}
-use Rattle.syntax_parsers.specs.Whole.{type_of}
-use Rattle.syntax_laws.proofs.TextsExact.{answers_text, types_exact}
-use Rattle.syntax_laws.proofs.answers.spelled_type.Goals as goal
-
-pub returns : goal.returns
-returns c = answers_text ty type_of SpellsTy types_exact (lit_str_view c.args.lit.now) c.parse_type.result (c.parse_type.ensures.tree, c.parse_type.ensures.fault)
