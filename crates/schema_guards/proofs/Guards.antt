@@ -24,10 +24,10 @@ use Rattle.schema_guards.proofs.Inner.{own_reference, child_reference, own_or_ch
 
 -- ---- numbers of places
 
-same_place-sound : (l m : Location) → same_place l m ≡ true → l ≡ m
+pub same_place-sound : (l m : Location) → same_place l m ≡ true → l ≡ m
 same_place-sound l m = (pointwise_decides {E = bytes_eq} bytes_eq-Decides l m).0
 
-same_place-itself : (l : Location) → same_place l l ≡ true
+pub same_place-itself : (l : Location) → same_place l l ≡ true
 same_place-itself l = (pointwise_decides {E = bytes_eq} bytes_eq-Decides l l).1 refl
 
 -- what stands at a place's number is the place
@@ -68,14 +68,14 @@ split b (d ∷ ds) e h k = elim (first_or_rest d ds e h) [
     there true k = rest_in d (definitions_under b ds) e k
     there false k = k
 
-in_places : (ds : List Definition) (e : Definition) → Contains ds e → Contains (definitions_under true ds ++ definitions_under false ds) e
+pub in_places : (ds : List Definition) (e : Definition) → Contains ds e → Contains (definitions_under true ds ++ definitions_under false ds) e
 in_places ds e h = by_word e.under_defs refl
   where
     by_word : (b : Bool) → e.under_defs ≡ b → Contains (definitions_under true ds ++ definitions_under false ds) e
     by_word true k = Contains-append_left (definitions_under true ds) (definitions_under false ds) e (split true ds e h (ap (λ b. same_bool b true) k))
     by_word false k = Contains-append_right (definitions_under true ds) (definitions_under false ds) e (split false ds e h (ap (λ b. same_bool b false) k))
 
-from_map : {A B : Type 0} (f : A → B) (xs : List A) (y : B) → Contains (map f xs) y → (x : A) × Contains xs x × (f x ≡ y)
+pub from_map : {A B : Type 0} (f : A → B) (xs : List A) (y : B) → Contains (map f xs) y → (x : A) × Contains xs x × (f x ≡ y)
 from_map f [] y h = absurd (none_in y h)
 from_map f (x ∷ xs) y h = elim (first_or_rest (f x) (map f xs) y h) [
   | inl e ↦ (x, first_in x xs, e)
@@ -129,7 +129,7 @@ module _ (d : Document) where
           }
 
   -- a number that some place has is that of a target
-  targeted : (q : List ℕ) → number_of d q < length places → (m : Location) × (target_location d q ≡ Some m) × (place_at (number_of d q) ≡ m)
+  pub targeted : (q : List ℕ) → number_of d q < length places → (m : Location) × (target_location d q ≡ Some m) × (place_at (number_of d q) ≡ m)
   targeted q h = by_target (target_location d q) refl h
     where
       by_target : (o : Option Location) → target_location d q ≡ o → number_at d o < length places → (m : Location) × (target_location d q ≡ Some m) × (place_at (number_of d q) ≡ m)
@@ -448,7 +448,7 @@ stands_at d _ _ (one_step _ _ (to_target l m s q e f t)) = (s, e)
 stands_at d _ _ (more_steps _ _ m (to_child l s c e k) w) = (s, e)
 stands_at d _ _ (more_steps _ _ m (to_target l k s q e f t) w) = (s, e)
 
-none_before : (d : Document) (i : ℕ) → i ≤ length (target_places d) → ((k : ℕ) → k < i → ¬ (graph.Leads (reference_graph_of d) k k)) → NoLoopBefore d i
+pub none_before : (d : Document) (i : ℕ) → i ≤ length (target_places d) → ((k : ℕ) → k < i → ¬ (graph.Leads (reference_graph_of d) k k)) → NoLoopBefore d i
 none_before d i h least k l w =
     let ls = target_places d in
     let m = get_or ls k [] in

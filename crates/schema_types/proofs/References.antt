@@ -7,6 +7,8 @@ use Rattle.std.proofs.lemmas.Slice.Eq.{bytes_eq-Decides}
 use Rattle.std.proofs.lemmas.Map.Text.{is_eq-slice_cmp}
 use Rattle.std.specs.Cmp.Lexicographic.{slice_cmp}
 use Rattle.std.specs.List.{starts_with, list_any}
+use Rattle.std.specs.List.Sorted.{IsStrictlySortedBy}
+use Rattle.std.specs.Prelude.{string_cmp}
 use Rattle.std.specs.Map.{lookup, keys_of}
 use Rattle.std.specs.BTreeMap.{is_at}
 use Rattle.std.specs.Str.Pattern.{FindsTextPrefix, LacksTextAt, StripsPrefix}
@@ -14,6 +16,7 @@ use Rattle.schema_defs.specs.Schema as defs
 use Rattle.schema_defs.specs.Location.{unescaped, after_tilde}
 use Rattle.schema_defs.specs.Admits.{defined, without_prefix}
 use Rattle.schema_defs.specs.Children.{definition_node, at_schema}
+use Rattle.schema_defs.specs.Laws.{NamesRise}
 use Rattle.json_value.specs.Value.{same_bool}
 use Rattle.std.specs.Prelude.{if◌then◌else◌}
 use Rattle.schema_types.specs.DocumentView.{definition_view, definitions_view, Placed, placed_view, placed_of}
@@ -99,3 +102,9 @@ definition_absent b (Some e) h = cc
 pub names_of_view : (es : List (String Global × Definition)) → map string_bytes (keys_of es) ≡ map (λ e. e.name) (definitions_view es)
 names_of_view [] = refl
 names_of_view (e ∷ es) = ap (λ ns. string_bytes e.0 ∷ ns) (names_of_view es)
+
+pub names_rise : (ks : List (String Global)) → IsStrictlySortedBy string_cmp ks → NamesRise (map string_bytes ks)
+unfolding IsStrictlySortedBy
+names_rise [] h = tt
+names_rise (k ∷ []) h = (tt, tt)
+names_rise (k ∷ l ∷ ks) h = (h.0.0, names_rise (l ∷ ks) h.1)

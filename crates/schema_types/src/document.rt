@@ -3,6 +3,7 @@ ghost use Rattle.std.specs.Prelude.{◌≡◌, [], ◌∷◌, MatchOption, map, 
 ghost use Rattle.schema_defs.specs.Location.{unescaped};
 ghost use Rattle.schema_defs.specs.Admits.{defined, target};
 ghost use Rattle.schema_defs.specs.Children.{schema_at};
+ghost use Rattle.schema_defs.specs.Laws.{NamesRise};
 ghost use Rattle.schema_types.specs.View.{schema_view};
 ghost use Rattle.schema_types.specs.DocumentView.{document_view, definitions_view, placed_view, placed_of};
 
@@ -76,9 +77,10 @@ impl Document {
     }
 
     /// The names of the definitions, in their order. It takes no memory.
-    #[tactic(auto, using(crate::proofs::References::names_of_view))]
+    #[tactic(auto, using(crate::proofs::References::names_of_view, crate::proofs::References::names_rise))]
     pub fn names(&self) -> Names<'_>
-        ensures { result ≡ map (λ e. e.name) (document_view self.now).definitions }
+        ensures names { result ≡ map (λ e. e.name) (document_view self.now).definitions }
+        ensures ordered { NamesRise result }
     {
         Names {
             keys: self.definitions.keys(),

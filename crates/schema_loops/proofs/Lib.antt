@@ -1,0 +1,4 @@
+pub mod Graphs
+pub mod Levels
+pub mod Ways
+pub mod Rounds

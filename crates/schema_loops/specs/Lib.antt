@@ -1,0 +1,4 @@
+pub mod Named
+pub mod Child
+pub mod Way
+pub mod Round

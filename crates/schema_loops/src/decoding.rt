@@ -1,0 +1,45 @@
+//! The name in a reference, and its decoding, where `~1` is `/` and `~0` is `~`.
+ghost use Rattle.std.specs.Prelude.{◌≡◌, ◌<◌, [], ◌∷◌, length, MatchOption, IfOk, option_map, codes};
+ghost use Rattle.schema_defs.specs.Location.{unescaped};
+ghost use Rattle.schema_defs.specs.Admits.{first_of, without_prefix};
+
+use std::alloc::{AllocError, Global};
+
+// The name as it is written, or nothing where the reference has neither prefix.
+pub(crate) fn written_name(reference: &str) -> Option<&str>
+    ensures { option_map (λ n. n.now) result ≡ first_of (without_prefix (codes "#/definitions/") reference.now) (without_prefix (codes "#/$defs/") reference.now) }
+{
+    match reference.strip_prefix("#/definitions/") {
+        Some(name) => Some(name),
+        None => reference.strip_prefix("#/$defs/"),
+    }
+}
+
+// The first byte of what the text decodes to, and what is left to decode.
+fn decode_first(escaped: &[u8]) -> Option<(u8, &[u8])>
+    ensures decodes { MatchOption result (escaped.now ≡ []) (λ f. unescaped escaped.now ≡ f.0 ∷ unescaped f.1.now) }
+    ensures shorter { MatchOption result (escaped.now ≡ []) (λ f. length f.1.now < length escaped.now) }
+{
+    let (first, rest) = escaped.split_first()?;
+    if *first != b'~' {
+        return Some((*first, rest));
+    }
+    match rest.split_first() {
+        Some((b'0', after)) => Some((b'~', after)),
+        Some((b'1', after)) => Some((b'/', after)),
+        _ => Some((b'~', rest)),
+    }
+}
+
+// What the text decodes to.
+pub(crate) fn decoded(alloc: Global, escaped: &str) -> Result<Vec<u8>, AllocError>
+    ensures { IfOk result (λ v. v.items ≡ unescaped escaped.now) }
+{
+    let mut bytes = Vec::with_capacity(alloc, escaped.len())?;
+    let mut left = escaped.as_bytes();
+    while let Some((first, rest)) = decode_first(left) {
+        bytes.push(first)?;
+        left = rest;
+    }
+    Ok(bytes)
+}
