@@ -1,6 +1,7 @@
-//! A place in a document, found on the way out.
+//! A place in a value, found on the way out.
 
 ghost use Rattle.std.specs.Prelude.{◌≡◌, [], ◌∷◌, IfOk};
+ghost use Rattle.schema_defs.specs.Location.{place as place_step};
 
 use schema_types::Location;
 use std::alloc::{AllocError, Global};
@@ -23,7 +24,7 @@ impl Model for Place {
 
 /// A place that is found, with the last of its steps first.
 #[derive(Drop)]
-pub(crate) struct Found {
+pub struct Found {
     back: Vec<String>,
     told: String,
 }
@@ -38,7 +39,7 @@ impl Model for Found {
 
 impl Found {
     /// Here.
-    pub(crate) fn here(alloc: Global, text: &str) -> Result<Found, AllocError>
+    pub fn here(alloc: Global, text: &str) -> Result<Found, AllocError>
         ensures { IfOk result (λ f. f ≡ ([], text.now)) }
     {
         Ok(Found {
@@ -48,7 +49,7 @@ impl Found {
     }
 
     /// As it is seen from one step before.
-    pub(crate) fn under(self, alloc: Global, step: &str) -> Result<Found, AllocError>
+    pub fn under(self, alloc: Global, step: &str) -> Result<Found, AllocError>
         ensures { IfOk result (λ f. f ≡ (step.now ∷ self.0, self.1)) }
     {
         let mut longer = self;
@@ -56,8 +57,16 @@ impl Found {
         Ok(longer)
     }
 
+    /// As it is seen from the list that it stands in, at that place.
+    pub fn under_place(self, alloc: Global, place: usize) -> Result<Found, AllocError>
+        ensures { IfOk result (λ f. f ≡ (place_step place ∷ self.0, self.1)) }
+    {
+        let step = place.to_string(alloc)?;
+        self.under(alloc, &step)
+    }
+
     /// With its steps from the root.
-    pub(crate) fn into_place(self) -> Place
+    pub fn into_place(self) -> Place
         ensures { result ≡ self }
     {
         let mut steps = self.back;

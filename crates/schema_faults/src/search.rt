@@ -5,7 +5,6 @@ ghost use Rattle.std.specs.Prelude.{◌≡◌, ◌∷◌, ◌++◌, IfOk, option
 ghost use Rattle.std.specs.List.{flat_map};
 ghost use Rattle.serde_json.specs.View.{view, items_view, members_view};
 ghost use Rattle.json_value.specs.View.{value_of, items_of, members_of};
-ghost use Rattle.schema_defs.specs.Location.{place};
 ghost use Rattle.schema_faults.specs.Schemas.{held, held_items, held_members, inside_value, list_nodes, nodes_in, nodes_of, object_nodes, one_schema, schema_nodes};
 ghost use Rattle.schema_faults.specs.Faults.{first, is_float, malformed_keywords, mark_if, some_keyword};
 ghost use Rattle.schema_faults.specs.Search.{first_among, told_by};
@@ -244,17 +243,10 @@ fn in_items(
 {
     for (i, item) in items.iter().enumerate() {
         if let Some(found) = in_schema(search, alloc, item, keyword, false)? {
-            return Ok(Some(at_place(alloc, i, found)?));
+            return Ok(Some(found.under_place(alloc, i)?));
         }
     }
     Ok(None)
-}
-
-fn at_place(alloc: Global, i: usize, found: Found) -> Result<Found, AllocError>
-    ensures { IfOk result (λ f. f ≡ (place i ∷ found.0, found.1)) }
-{
-    let step = i.to_string(alloc)?;
-    found.under(alloc, &step)
 }
 
 #[cycle(search)]

@@ -51,7 +51,7 @@ pub in_items-returns-in-Some : goal.in_items-returns-in-Some
 in_items-returns-in-Some t c =
     let is : c.item-item.result ≡ get_or c.args.items.now.items c.loop-i.i c.item-item.result = c.item-item.is ∙ ap (λ xs. get_or xs c.loop-i.i c.item-item.result) c.deref-item-items.ensures.value in
     let lt : c.loop-i.i < length c.args.items.now.items = subst (λ (xs : List Read). c.loop-i.i < length xs) c.deref-item-items.ensures.value (omega arith) in
-    sym (c.loop-i.invariant ∙ items_some c.args.search.now c.args.keyword.now c.args.items.now.items c.loop-i.i c.item-item.result lt is c.in-Some.found (sym c.in-Some.is ∙ c.in_ok-found.ensures) ∙ ap Some (sym c.in_ok-at_place.ensures))
+    sym (c.loop-i.invariant ∙ items_some c.args.search.now c.args.keyword.now c.args.items.now.items c.loop-i.i c.item-item.result lt is c.in-Some.found (sym c.in-Some.is ∙ c.in_ok-found.ensures) ∙ ap Some (sym c.in_ok-under_place.ensures))
 
 pub in_items-loop-i-preserved : goal.in_items-loop-i-preserved
 in_items-loop-i-preserved t c =
