@@ -13,3 +13,5 @@ pub use judge::admits;
 
 #[cfg(test)]
 mod tests;
+#[cfg(test)]
+mod vectors;

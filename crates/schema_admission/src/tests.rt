@@ -1,8 +1,9 @@
 //! A few documents built by hand, against values with their verdicts.
 use crate::admits;
-use schema_tree::{
-    ArrayValidation, Definition, Document, InstanceType, Items, NumberValidation, PlainTexts,
-    Schema, SchemaObject, StringValidation, Subschemas, Types,
+use schema_tree::{InstanceType, PlainTexts};
+use schema_types::{
+    ArrayValidation, Definition, Document, Items, NumberValidation, Schema, SchemaObject,
+    StringValidation, Subschemas, Types,
 };
 use serde_json::Value;
 use std::alloc::{AllocError, Global};

@@ -1,5 +1,8 @@
-pub mod Names
+pub mod KeptNames
 pub mod Listed
 pub mod Fields
 pub mod Counts
 pub mod NoFloat
+pub mod WidePlaces
+pub mod FirstPlaces
+pub mod WideValues

@@ -3,3 +3,4 @@ pub mod Fault
 pub mod Form
 pub mod FormView
 pub mod Numbers
+pub mod Document

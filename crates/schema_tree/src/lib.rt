@@ -1,27 +1,36 @@
-//! What the conversion of schemas speaks of: places in a document, faults, judges of texts, the conversion table, and
-//! the reader of the one form of schema that is accepted.
+//! What the conversion of schemas speaks of: documents read from JSON values, places in them, faults, judges of texts, the
+//! conversion table, and the reader of the one form of schema that is converted so far.
 #![tactic(auto)]
 
 mod conversions;
+mod document;
 mod fault;
 mod form;
 mod name;
 mod number;
 mod print;
 mod texts;
+mod wide;
 
 pub use conversions::{Constraint, Conversions, Rule};
+pub use document::Document;
 pub use fault::{Fault, InvalidKind, UnsupportedKind};
 pub use form::{FlatField, FlatKind, read_form};
+pub use json_value::is_whole;
 pub use name::is_kept_name;
 pub use number::{holds_i64_alone, i64_alone_has_no_float};
 pub use print::json_string;
 pub use schema_defs::{Format, InstanceType};
 pub use schema_types::{
-    ArrayValidation, Definition, Document, Items, Location, NumberValidation, ObjectValidation,
-    Schema, SchemaObject, StringValidation, Subschemas, Types, Walk,
+    ArrayValidation, Items, Location, Names, NumberValidation, ObjectValidation, Schema,
+    SchemaObject, StringValidation, Subschemas, Types, Walk, value_validate,
 };
 pub use texts::{PlainTexts, TextFault, Texts, no_relations_are_lawful};
+pub use wide::{check_values, wide_place, wide_places_are_exact};
 
+#[cfg(test)]
+mod document_tests;
+#[cfg(test)]
+mod large_tests;
 #[cfg(test)]
 mod tests;

@@ -49,7 +49,7 @@ fn is_among(name: &str, words: &[&str]) -> bool
     false
 }
 
-#[tactic(auto, using(crate::proofs::Names::spells_past))]
+#[tactic(auto, using(crate::proofs::KeptNames::spells_past))]
 fn is_identifier(name: &str) -> bool
     ensures { result ≡ spells_identifier (chars name.now) }
 {

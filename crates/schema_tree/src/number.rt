@@ -44,7 +44,7 @@ fn members_all_hold(members: &Map<String, Value>) -> bool
     true
 }
 
-fn is_i64(number: &Number) -> bool
+pub(crate) fn is_i64(number: &Number) -> bool
     ensures { result ≡ value_holds (number_value (number_view number.now)) }
 {
     match number.as_i128() {

@@ -11,5 +11,5 @@ pub mod Emitted
 pub mod PlainTypes
 pub mod Judged
 pub mod Reported
-pub mod Inputs
+pub mod Causes
 pub mod Statuses

@@ -14,7 +14,7 @@ use Rattle.model_defs.specs.Flat.{Flat, flat_field, flat_model, names_differ}
 use Rattle.model_defs.specs.Reads.{reads}
 use Rattle.model_defs.specs.Refusals.{refused_at}
 use Rattle.schema_tree.specs.Form.{form_of}
-use Rattle.schema_tree.specs.Numbers.{holds_i64_alone}
+use Rattle.schema_tree.specs.Numbers.{are_i64, holds_i64_alone}
 use Rattle.schema_tree.proofs.NoFloat.{no_float}
 use Rattle.typify_run.specs.Flat.{Fields, flat_document, flats}
 use Rattle.derive_ast.specs.Model.{IsNamedStruct, all_named}
@@ -25,7 +25,6 @@ use Rattle.typify_run.specs.Place.{place_of}
 use Rattle.typify_run.specs.Page.{IsPrintable, ArePrintable}
 use Rattle.typify_run.specs.Reader.{verdict_at, AreFlatJudged}
 use Rattle.typify_run.specs.Headline.{IsClean, report_reads, report_refuses, document_admits, IsReportOf}
-use Rattle.typify_run.specs.Examine.{are_i64}
 use Rattle.typify_run.specs.declared.report.Report.{Report}
 use Rattle.typify_run.proofs.Documents.{form_read}
 use Rattle.typify_run.proofs.Emitted.{root_clean, root_model, root_reads, root_refuses, root_exact}
@@ -70,7 +69,7 @@ printable_at : (closed : Bool) (fs : List Flat) (d : Data) (o : Option Location)
 printable_at closed fs d None h = no_float d h
 printable_at closed fs d (Some l) h = tt
 
-both_true : (a b : Bool) → (a && b) ≡ true → (a ≡ true) × (b ≡ true)
+pub both_true : (a b : Bool) → (a && b) ≡ true → (a ≡ true) × (b ≡ true)
 both_true true b h = (refl, h)
 both_true false b h = cc
 

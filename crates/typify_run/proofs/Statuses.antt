@@ -1,19 +1,20 @@
 -- What each status says, out of how a run ends.
-use Rattle.std.proofs.Common.{◌≡◌, ◌≢◌, ◌⊎◌, inl, inr, ℕ, zero, suc, List, Bool, true, false, true≢false, Option, Some, None, refl, sym, ◌∙◌, ap, subst, arith}
+use Rattle.std.proofs.Common.{◌≡◌, ◌≢◌, ◌⊎◌, inl, inr, ℕ, zero, suc, List, false, true≢false, Option, Some, None, refl, sym, ◌∙◌, ap, subst, arith}
+use Rattle.std.proofs.lemmas.Option.{same_Some}
 use Rattle.schema_defs.specs.Texts.{Relations}
+use Rattle.json_value.specs.View.{value_of}
+use Rattle.schema_tree.specs.Fault.{FaultD}
 use Rattle.schema_tree.specs.declared.fault.Fault.{Fault}
-use Rattle.typify_run.specs.Input.{Parts, IsInput, parts_of}
-use Rattle.typify_run.specs.Outcome.{Answers, Ends, EndsReading, IsBare, IsCaused, IsCutOff, IsCutShort, IsFaultPrinted, IsMemorySpent, IsNoInput, IsReportPrinted, IsReported, IsWritingCut, is_built}
+use Rattle.run_input.specs.Input.{Parts, IsInput, data_of, parts_of}
+use Rattle.typify_run.specs.Outcome.{Answers, EndsReading, IsBare, IsCauseIn, IsCutShort, IsFaultPrinted, IsMemorySpent, IsNoInput, IsReportPrinted, IsReported, IsWritingCut, is_built}
 use Rattle.typify_run.specs.declared.report.Report.{Report}
-
-some_injective : {A : Type 0} {x y : A} → Some x ≡ Some y → x ≡ y
-some_injective e = cc
+use Rattle.typify_run.proofs.Causes.{no_cause}
 
 -- bytes are an input of one schema and one list of values
 one_input : (all : List ℕ) (p q : Parts) → IsInput all p → IsInput all q → p ≡ q
 one_input all p q a b =
-    let same : a.read.0 ≡ b.read.0 = some_injective (sym a.read.1 ∙ b.read.1) in
-    some_injective (sym a.read.2 ∙ ap parts_of same ∙ b.read.2)
+    let same : a.read.0 ≡ b.read.0 = same_Some a.read.0 b.read.0 (sym a.read.1 ∙ b.read.1) in
+    same_Some p q (sym a.read.2 ∙ ap parts_of same ∙ b.read.2)
 
 module _ (texts : Relations) (all : List ℕ) (before after : Option (List ℕ)) where
   -- by what the parts of the input say, where that is said at that status
@@ -75,21 +76,30 @@ module _ (texts : Relations) (all : List ℕ) (before after : Option (List ℕ))
   refused status report fault (inr (inr (inl h))) none = inr (inr (inr h.0))
   refused status report fault (inr (inr (inr h))) none = absurd (none h.0 h.1)
 
-  -- an answer to parts that are of no form that is built
-  unbuilt : (parts : Parts) (status : ℕ) (report : Option Report) (fault : Option Fault) → is_built parts ≡ false → Answers texts parts before after status report fault → (status ≡ 1) ⊎ IsCutShort status
-  unbuilt parts zero (Some r) None other h = absurd (true≢false (sym h.0.1 ∙ other))
-  unbuilt parts zero None fault other h = absurd h
-  unbuilt parts zero (Some r) (Some f) other h = absurd h
-  unbuilt parts (suc zero) report fault other h = inl refl
-  unbuilt parts (suc (suc zero)) report fault other h = absurd h
-  unbuilt parts (suc (suc (suc zero))) report fault other h = absurd h
-  unbuilt parts (suc (suc (suc (suc zero)))) report fault other h = absurd h
-  unbuilt parts (suc (suc (suc (suc (suc zero))))) report fault other h = inr (inr (inl refl))
-  unbuilt parts (suc (suc (suc (suc (suc (suc zero)))))) report fault other h = inr (inr (inr refl))
-  unbuilt parts (suc (suc (suc (suc (suc (suc (suc n))))))) report fault other h = absurd h
+  -- parts of which no report is given are answered by a fault, or cut short
+  unreported : (parts : Parts) (status : ℕ) (report : Option Report) (fault : Option Fault) → ((r : Report) → IsReported texts parts r → ⊥) → Answers texts parts before after status report fault → (status ≡ 1) ⊎ IsCutShort status
+  unreported parts zero (Some r) None none h = absurd (none r h.0)
+  unreported parts zero None fault none h = absurd h
+  unreported parts zero (Some r) (Some f) none h = absurd h
+  unreported parts (suc zero) report fault none h = inl refl
+  unreported parts (suc (suc zero)) report fault none h = absurd h
+  unreported parts (suc (suc (suc zero))) report fault none h = absurd h
+  unreported parts (suc (suc (suc (suc zero)))) report fault none h = absurd h
+  unreported parts (suc (suc (suc (suc (suc zero))))) report fault none h = inr (inr (inl refl))
+  unreported parts (suc (suc (suc (suc (suc (suc zero)))))) report fault none h = inr (inr (inr refl))
+  unreported parts (suc (suc (suc (suc (suc (suc (suc n))))))) report fault none h = absurd h
 
+  -- the same of an input's parts, out of how a run ends
+  refused_parts : (status : ℕ) (report : Option Report) (fault : Option Fault) → EndsReading texts all before after status report fault → (parts : Parts) → IsInput all parts → ((r : Report) → IsReported texts parts r → ⊥) → (status ≡ 1) ⊎ IsCutShort status
+  refused_parts status report fault (inl h) parts input none = inr (inl h.0)
+  refused_parts status report fault (inr (inl h)) parts input none = absurd (h.1 parts input)
+  refused_parts status report fault (inr (inr (inl h))) parts input none = inr (inr (inr h.0))
+  refused_parts status report fault (inr (inr (inr h))) parts input none = unreported parts status report fault none (subst (λ p. Answers texts p before after status report fault) (one_input all h.0 parts h.1 input) h.2)
+
+  -- a report is given of a form that is built
   pub not_built : (status : ℕ) (report : Option Report) (fault : Option Fault) → EndsReading texts all before after status report fault → (parts : Parts) → IsInput all parts → is_built parts ≡ false → (status ≡ 1) ⊎ IsCutShort status
-  not_built status report fault (inl h) parts input other = inr (inl h.0)
-  not_built status report fault (inr (inl h)) parts input other = absurd (h.1 parts input)
-  not_built status report fault (inr (inr (inl h))) parts input other = inr (inr (inr h.0))
-  not_built status report fault (inr (inr (inr h))) parts input other = unbuilt h.0 status report fault (ap is_built (one_input all h.0 parts h.1 input) ∙ other) h.2
+  not_built status report fault h parts input other = refused_parts status report fault h parts input (λ r given. true≢false (sym given.1 ∙ other))
+
+  -- and of parts in which no fault has its cause
+  pub faulty : (status : ℕ) (report : Option Report) (fault : Option Fault) → EndsReading texts all before after status report fault → (parts : Parts) (f : FaultD) → IsInput all parts → IsCauseIn parts f → (status ≡ 1) ⊎ IsCutShort status
+  faulty status report fault h parts f input cause = refused_parts status report fault h parts input (λ r given. no_cause (value_of parts.schema) (data_of parts.values) f given.1 given.2 cause)

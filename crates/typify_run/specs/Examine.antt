@@ -1,9 +1,7 @@
 -- What is examined: a schema of the one accepted form, and values whose numbers are i64.
-use Rattle.std.specs.Prelude.{◌≡◌, ◌&&◌, ◌⊎◌, List, [], ◌∷◌, map, Bool, true, false, is_some}
-use Rattle.std.specs.List.{list_all}
+use Rattle.std.specs.Prelude.{◌≡◌, ◌&&◌, ◌⊎◌, List, [], ◌∷◌, map, Bool, true, None, is_some}
 use Rattle.serde_json.specs.Data.{Data}
 use Rattle.json_value.specs.Value.{Value}
-use Rattle.json_value.specs.View.{value_of}
 use Rattle.syntax_trees.specs.Item.{item_view}
 use Rattle.syntax_trees.specs.View.{ty}
 use Rattle.schema_tree.specs.Form.{form_of}
@@ -12,23 +10,28 @@ use Rattle.typify_run.specs.Item.{root_item, root_ty}
 use Rattle.typify_run.specs.Reader.{AreFlatJudged}
 use Rattle.typify_run.specs.Verdict.{verdict_view}
 use Rattle.typify_run.specs.declared.report.Report.{Report}
-use Rattle.schema_tree.specs.Numbers.{holds_i64_alone}
+use Rattle.schema_tree.specs.Numbers.{are_i64, HasWideNumber}
+use Rattle.schema_tree.specs.Document.{IsReadAs, HasFault}
+use Rattle.schema_defs.specs.Schema.{Document}
 use Rattle.schema_tree.specs.declared.fault.UnsupportedKind.TheVariants.{NotYet}
-use Rattle.schema_tree.specs.Fault.{FaultD, memory, unsupported}
-
-abbrev pub are_i64 : List Data → Bool
-are_i64 ds = list_all (λ d. holds_i64_alone (value_of d)) ds
+use Rattle.schema_tree.specs.Fault.{FaultD, memory, unsupported, value_number}
 
 abbrev pub is_examined : Value → List Data → Bool
 is_examined schema values = are_i64 values && is_some (form_of schema)
 
--- not built yet, told at the root
-abbrev pub not_yet : FaultD
-not_yet = unsupported [] NotYet
+-- the schema is a document that no fault keeps from being read
+abbrev pub IsAccepted : Value → Type 0
+IsAccepted schema = (d : Document) × IsReadAs schema d
 
--- want of memory, or what isn't built yet
+-- the cause of a fault: the first number of the values that is no i64; else the first fault of the document; else a document that is not converted yet, told at the root
+abbrev pub IsCause : Value → List Data → FaultD → Type 0
+IsCause schema values (value_number i l) = HasWideNumber values (value_number i l)
+IsCause schema values (unsupported l k) = (are_i64 values ≡ true) × IsAccepted schema × (form_of schema ≡ None) × (l ≡ []) × (k ≡ NotYet)
+IsCause schema values f = (are_i64 values ≡ true) × HasFault schema f
+
+-- want of memory, or a fault with its cause
 abbrev pub IsRefusal : Value → List Data → FaultD → Type 0
-IsRefusal schema values f = (f ≡ memory) ⊎ ((f ≡ not_yet) × (is_examined schema values ≡ false))
+IsRefusal schema values f = (f ≡ memory) ⊎ IsCause schema values f
 
 -- the report of a closed object of plain fields: one item, and the verdicts of its struct
 pub record IsFlatReport (fs : Fields) (values : List Data) (r : Report) : Type 0 where

@@ -1,7 +1,6 @@
 pub mod Flat
 pub mod Item
 pub mod Words
-pub mod Input
 pub mod Note
 pub mod Verdict
 pub mod Page

@@ -1,32 +1,30 @@
 -- What each status of a run says: of the input, of the bytes that were written, and of what is carried.
-use Rattle.std.specs.Prelude.{◌≡◌, ◌⊎◌, ℕ, zero, suc, List, [], ◌∷◌, Bool, true, false, Option, Some, None}
-use Rattle.serde_json.specs.Data.{Data, Items, no_items, item}
+use Rattle.std.specs.Prelude.{◌≡◌, ◌⊎◌, ℕ, zero, suc, List, Bool, true, Option, Some, None}
 use Rattle.run_io.specs.Bytes.{Appends, AppendsPrefix}
 use Rattle.json_value.specs.View.{value_of}
 use Rattle.schema_defs.specs.Texts.{Relations}
-use Rattle.schema_tree.specs.Fault.{fault_view, fault_line}
+use Rattle.schema_tree.specs.Fault.{FaultD, fault_view, fault_line}
 use Rattle.schema_tree.specs.declared.fault.Fault.{Fault}
-use Rattle.typify_run.specs.Input.{Parts, IsInput}
+use Rattle.run_input.specs.Input.{Parts, IsInput, data_of}
 use Rattle.typify_run.specs.Headline.{IsReportOf}
-use Rattle.typify_run.specs.Examine.{is_examined, not_yet}
+use Rattle.typify_run.specs.Examine.{is_examined, IsAccepted, IsCause}
 use Rattle.typify_run.specs.Page.{page}
 use Rattle.typify_run.specs.declared.report.Report.{Report}
-
-abbrev pub data_of : Items → List Data
-data_of no_items = []
-data_of (item d ds) = d ∷ data_of ds
 
 -- the schema is of the one form, and the values' numbers are i64
 abbrev pub is_built : Parts → Bool
 is_built parts = is_examined (value_of parts.schema) (data_of parts.values)
 
--- the report is one of the input's schema and values
+-- the report is one of the input's schema and values, and the schema has no fault
 abbrev pub IsReported : Relations → Parts → Report → Type 0
-IsReported texts parts r = IsReportOf texts (value_of parts.schema) (data_of parts.values) r × (is_built parts ≡ true)
+IsReported texts parts r = IsReportOf texts (value_of parts.schema) (data_of parts.values) r × (is_built parts ≡ true) × IsAccepted (value_of parts.schema)
 
--- the fault has its cause: the schema, or a value, is of no form that is built
+-- what a fault tells has its cause in the input
+abbrev pub IsCauseIn : Parts → FaultD → Type 0
+IsCauseIn parts f = IsCause (value_of parts.schema) (data_of parts.values) f
+
 abbrev pub IsCaused : Parts → Fault → Type 0
-IsCaused parts f = (fault_view f ≡ not_yet) × (is_built parts ≡ false)
+IsCaused parts f = IsCauseIn parts (fault_view f)
 
 abbrev pub line_of : Fault → List ℕ
 line_of f = fault_line (fault_view f)

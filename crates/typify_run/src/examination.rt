@@ -6,10 +6,12 @@ ghost use Rattle.json_value.specs.View.{value_of};
 ghost use Rattle.derive_ast.specs.Model.{IsNamedStruct};
 ghost use Rattle.model_defs.specs.Flat.{flat_model};
 ghost use Rattle.schema_defs.specs.Texts.{Relations};
-ghost use Rattle.schema_tree.specs.Fault.{fault_view, memory};
+ghost use Rattle.schema_tree.specs.Fault.{fault_view, memory, unsupported as unsupported_at};
+ghost use Rattle.schema_tree.specs.Numbers.{are_i64};
+ghost use Rattle.schema_tree.specs.declared.fault.UnsupportedKind.TheVariants.{NotYet};
 ghost use Rattle.schema_tree.specs.Form.{form_of};
 ghost use Rattle.schema_tree.specs.FormView.{fields_view};
-ghost use Rattle.typify_run.specs.Examine.{IsFlatReport, IsRefusal, are_i64 as all_i64, is_examined, not_yet};
+ghost use Rattle.typify_run.specs.Examine.{IsAccepted, IsFlatReport, IsRefusal, is_examined};
 ghost use Rattle.typify_run.specs.Headline.{IsReportOf};
 ghost use Rattle.typify_run.specs.Model.{item_model};
 ghost use Rattle.typify_run.specs.Page.{ArePrintable};
@@ -20,27 +22,16 @@ use crate::item::{root_item, root_type};
 use crate::judge::Reader;
 use crate::report::Report;
 use schema_tree::{
-    Conversions, Fault, FlatField, Location, Texts, UnsupportedKind, holds_i64_alone, read_form,
+    Conversions, Document, Fault, FlatField, Location, Texts, UnsupportedKind, check_values,
+    read_form,
 };
 use serde_json::Value;
 use std::alloc::{AllocError, Global};
 use syntax_trees::DeriveInput;
 
-// Whether each number in the values is an i64.
-fn are_i64(values: &[Value]) -> bool
-    ensures { result ≡ all_i64 (map view values.now) }
-{
-    for value in values {
-        if !holds_i64_alone(value) {
-            return false;
-        }
-    }
-    true
-}
-
 // What isn't built yet is told at the root.
 fn unsupported(alloc: Global) -> Fault
-    ensures { fault_view result ≡ not_yet }
+    ensures { fault_view result ≡ unsupported_at [] NotYet }
 {
     Fault::Unsupported {
         path: Location::root(alloc),
@@ -85,7 +76,7 @@ fn examine_fields(
     values: &[Value],
 ) -> Result<Report, Fault>
     requires form { form_of (value_of (view document.now)) ≡ Some (fields_view fields.now) }
-    requires numbers { all_i64 (map view values.now) ≡ true }
+    requires numbers { are_i64 (map view values.now) ≡ true }
     ensures report { IfOk result (λ r. (texts : Relations) → IsReportOf texts (value_of (view document.now)) (map view values.now) r) }
     ensures no_notes { IfOk result (λ r. r.notes.items ≡ []) }
     ensures printable { IfOk result (λ r. ArePrintable (map verdict_view r.verdicts.items)) }
@@ -98,9 +89,10 @@ fn examine_fields(
 }
 
 /// The items that stand for a schema document, with a verdict for each value, in order. `depth` bounds the walks of the
-/// conversion. One form of schema is accepted: a closed object whose members are all required booleans, integers or
-/// texts. Any other, and a value with a number that isn't an i64, is `Unsupported` of kind `NotYet` at the root. Fails
-/// with `Memory` where memory runs out.
+/// conversion. Refused are a number of a value that isn't an i64 (`ValueNumber`), then the faults of `Document::read`, then
+/// each document that isn't converted yet (`Unsupported` of kind `NotYet`, at the root): all but a closed object whose
+/// members are all required booleans, integers or texts. Fails with `Memory` where memory runs out.
+#[tactic(auto, using(crate::proofs::Causes::wide_refused, crate::proofs::Causes::unread_refused))]
 pub fn examine<T: Texts>(
     alloc: Global,
     document: &Value,
@@ -113,13 +105,13 @@ pub fn examine<T: Texts>(
     ensures no_notes { IfOk result (λ r. r.notes.items ≡ []) }
     ensures printable { IfOk result (λ r. ArePrintable (map verdict_view r.verdicts.items)) }
     ensures examined { OnOk result (is_examined (value_of (view document.now)) (map view values.now) ≡ true) }
+    ensures accepted { OnOk result (IsAccepted (value_of (view document.now))) }
     ensures refused { IfErr result (λ f. IsRefusal (value_of (view document.now)) (map view values.now) (fault_view f)) }
     ensures keeps { T.relations texts.new ≡ T.relations texts.old }
     ensures counts { T.faults texts.old ≤ T.faults texts.new }
 {
-    if !are_i64(values) {
-        return Err(unsupported(alloc));
-    }
+    check_values(alloc, values)?;
+    drop(Document::read(alloc, document)?);
     match read_form(alloc, document) {
         Err(_) => Err(Fault::Memory),
         Ok(None) => Err(unsupported(alloc)),

@@ -2,7 +2,6 @@
 #![tactic(auto)]
 
 mod examination;
-mod input;
 mod item;
 mod judge;
 mod note;

@@ -102,20 +102,88 @@ fn other_inputs_end_with_three(rt: HostRuntime) -> Result<(), Fail> {
     Ok(())
 }
 
+// Whether a run on the schema and the values ends at a fault whose line, after `fault`, is that one.
+fn tells(alloc: Global, schema: &str, values: &str, line: &str) -> Result<bool, AllocError> {
+    let input = input_of(alloc, schema, values)?;
+    let want = format!(in alloc; "1 fault {line}\n")?;
+    Ok(plain_run(alloc, "check 8", &input)?.as_str() == want.as_str())
+}
+
 #[test]
 fn what_is_not_built_is_a_fault(rt: HostRuntime) -> Result<(), Fail> {
-    for (schema, values) in [
-        ("true", "[]"),
-        (r#"{"type":"integer"}"#, "[]"),
-        (r#"{"type":"object","additionalProperties":false}"#, "[1.5]"),
-        (SCHEMA, "[18446744073709551615]"),
-        (SCHEMA, r#"[{"id":9223372036854775808,"name":"a"}]"#),
+    for schema in [
+        "true",
+        r#"{"type":"integer"}"#,
+        r#"{"type":"object","additionalProperties":false}"#,
+        r##"{"$ref":"#/definitions/A","definitions":{"A":{"properties":{"next":{"$ref":"#/definitions/A"}}}}}"##,
+        r#"{"type":["array","boolean","integer","null","number","object","string"],"minimum":1}"#,
     ] {
-        let input = input_of(rt.alloc(), schema, values)?;
-        assert_eq!(rt;
-            plain_run(rt.alloc(), "check 8", &input)?.as_str(),
-            "1 fault Unsupported \"#\"\n"
-        );
+        assert!(rt; tells(rt.alloc(), schema, "[1]", r##"Unsupported "#""##)?);
+    }
+    Ok(())
+}
+
+#[test]
+fn numbers_out_of_range_are_told_first(rt: HostRuntime) -> Result<(), Fail> {
+    for (schema, values, line) in [
+        (
+            r#"{"type":"array","items":[{"type":"integer","format":"int64"}]}"#,
+            "[[9223372036854775808,0]]",
+            r##"ValueNumber 0 "#/0""##,
+        ),
+        (
+            SCHEMA,
+            r#"[{"id":9223372036854775808,"name":"a"}]"#,
+            r##"ValueNumber 0 "#/id""##,
+        ),
+        (
+            SCHEMA,
+            r#"[{"id":9223372036854775807},{"a/b":[1,0.5],"c":1.5}]"#,
+            r##"ValueNumber 1 "#/a~1b/1""##,
+        ),
+        (
+            "true",
+            "[[],-9223372036854775809,0.5]",
+            r##"ValueNumber 1 "#""##,
+        ),
+        (
+            r#"{"multipleOf":0}"#,
+            "[18446744073709551615]",
+            r##"ValueNumber 0 "#""##,
+        ),
+    ] {
+        assert!(rt; tells(rt.alloc(), schema, values, line)?);
+    }
+    Ok(())
+}
+
+#[test]
+fn faults_of_documents_are_told(rt: HostRuntime) -> Result<(), Fail> {
+    for (schema, line) in [
+        (r#"{"type":"object","properties":[]}"#, r##"Malformed "#""##),
+        (r#"{"type":"integer","multipleOf":0}"#, r##"Malformed "#""##),
+        (
+            r##"{"$ref":"#/definitions/x","definitions":{"y":{"minLength":-1}}}"##,
+            r##"Malformed "#/definitions/y""##,
+        ),
+        (r##"{"$ref":"#/definitions/x"}"##, r##"MissingRef "#""##),
+        (r#"{"$ref":"other.json"}"#, r##"ExternalRef "#""##),
+        (
+            r##"{"type":"number","properties":{"b":{"$ref":"x"},"a":{"$ref":"#/x"}}}"##,
+            r##"MissingRef "#/properties/a""##,
+        ),
+        (r#"{"type":"number"}"#, r##"Float "#""##),
+        (
+            r##"{"$ref":"#","properties":{"a":{"minimum":0.5}}}"##,
+            r##"Float "#/properties/a""##,
+        ),
+        (r##"{"$ref":"#"}"##, r##"Unguarded "#""##),
+        (
+            r##"{"definitions":{"b":{"not":{"$ref":"#/definitions/a"}},"a":{"allOf":[{"$ref":"#/definitions/b"}]}}}"##,
+            r##"Unguarded "#/definitions/a""##,
+        ),
+    ] {
+        assert!(rt; tells(rt.alloc(), schema, "[1]", line)?);
     }
     Ok(())
 }

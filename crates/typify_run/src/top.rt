@@ -3,18 +3,18 @@ ghost use Rattle.std.specs.Prelude.{◌≡◌, ◌≢◌, ◌≤◌, ◌↔◌, 
 ghost use Rattle.serde_json.specs.View.{view};
 ghost use Rattle.run_io.specs.Bytes.{Rises};
 ghost use Rattle.schema_defs.specs.Texts.{Relations};
-ghost use Rattle.schema_tree.specs.Fault.{fault_view, memory};
-ghost use Rattle.typify_run.specs.Input.{Parts, IsInput, limit};
-ghost use Rattle.typify_run.specs.Outcome.{Answers, Ends, EndsReading, IsBare, IsCaused, IsCutShort, IsFaultPrinted, IsMemorySpent, IsNoInput, IsPrinting, IsReportPrinted, IsReported, IsWritingCut, data_of, is_built};
+ghost use Rattle.schema_tree.specs.Fault.{FaultD, fault_view, memory};
+ghost use Rattle.run_input.specs.Input.{Parts, IsInput, data_of, limit};
+ghost use Rattle.typify_run.specs.Outcome.{Answers, Ends, EndsReading, IsBare, IsCauseIn, IsCaused, IsCutShort, IsFaultPrinted, IsMemorySpent, IsNoInput, IsPrinting, IsReportPrinted, IsReported, IsWritingCut, is_built};
 ghost use Rattle.typify_run.specs.Page.{ArePrintable};
 ghost use Rattle.typify_run.specs.Verdict.{verdict_view};
 ghost use Rattle.typify_run.specs.Words.{check_depth};
 
 use crate::examination::examine;
-use crate::input::input_parts;
 use crate::outcome::Outcome;
 use crate::report::Report;
 use crate::words::depth_of_words;
+use run_input::{LIMIT, input_parts};
 use run_io::{InputFault, Sink, SinkFault, Source, put, read_input};
 use schema_tree::{Fault, Texts};
 use serde_json::Value;
@@ -132,9 +132,6 @@ fn run_bytes<K: Sink, T: Texts>(
     }
 }
 
-/// The most bytes of an input.
-const LIMIT: usize = 16_777_216;
-
 // The input read to its end, and examined.
 fn run_check<S: Source, K: Sink, T: Texts>(
     alloc: Global,
@@ -181,6 +178,7 @@ pub fn run<S: Source, K: Sink, T: Texts>(
     ensures memory { (all : List ℕ) → S.left source.old ≡ Some all → result.status ≡ 6 → IsMemorySpent (T.relations texts.old) all (K.written sink.old) (K.written sink.new) result.report result.fault }
     ensures refused { (all : List ℕ) → S.left source.old ≡ Some all → IsNoInput all → (result.status ≡ 2) ⊎ ((result.status ≡ 3) ⊎ IsCutShort result.status) }
     ensures not_built { (all : List ℕ) (parts : Parts) → S.left source.old ≡ Some all → IsInput all parts → is_built parts ≡ false → (result.status ≡ 1) ⊎ ((result.status ≡ 2) ⊎ IsCutShort result.status) }
+    ensures faulty { (all : List ℕ) (parts : Parts) (f : FaultD) → S.left source.old ≡ Some all → IsInput all parts → IsCauseIn parts f → (result.status ≡ 1) ⊎ ((result.status ≡ 2) ⊎ IsCutShort result.status) }
     ensures spent { (all : List ℕ) → S.left source.old ≡ Some all → IsPrinting result.status → S.left source.new ≡ Some [] }
 {
     match depth_of_words(words) {

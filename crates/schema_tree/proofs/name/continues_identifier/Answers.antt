@@ -2,7 +2,7 @@ use Rattle.std.proofs.Common.{arith}
 use Rattle.std.proofs.lemmas.Grind.{common_steps}
 use Rattle.std.proofs.lemmas.Str.{IsUtf8-past_char}
 use Rattle.unicode_ident.specs.Ident.{is_xid_continue}
-use Rattle.schema_tree.proofs.Names.{all_past, all_of_none}
+use Rattle.schema_tree.proofs.KeptNames.{all_past, all_of_none}
 use Rattle.schema_tree.proofs.name.continues_identifier.Goals as goal
 
 pub returns-then-not-is_xid_continue : goal.returns-then-not-is_xid_continue

@@ -1,6 +1,6 @@
 use Rattle.std.proofs.Common.{arith, sym, ◌∙◌}
 use Rattle.std.proofs.lemmas.Grind.{common_steps}
-use Rattle.schema_tree.proofs.Names.{spells_past}
+use Rattle.schema_tree.proofs.KeptNames.{spells_past}
 use Rattle.schema_tree.proofs.name.is_identifier.Goals as goal
 
 pub returns-then-begins_identifier : goal.returns-then-begins_identifier

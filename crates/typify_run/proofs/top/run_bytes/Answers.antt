@@ -1,8 +1,7 @@
 use Rattle.std.proofs.Common.{◌≡◌, refl, sym, ap, map, inr, ◌∙◌}
 use Rattle.serde_json.specs.View.{view, items_view}
-use Rattle.typify_run.specs.Input.{Parts}
-use Rattle.typify_run.specs.Outcome.{data_of}
-use Rattle.typify_run.proofs.Inputs.{data_of_items}
+use Rattle.run_input.specs.Input.{Parts, data_of}
+use Rattle.run_input.proofs.Inputs.{data_of_items}
 use Rattle.typify_run.proofs.top.run_bytes.Goals as goal
 
 pub returns-in-Some-clause-ends : goal.returns-in-Some-clause-ends

@@ -1,19 +1,24 @@
-//! The input read: an object with exactly the members `schema` and `values`.
+//! The input of a run: one JSON object with exactly the members `schema` and `values`.
+#![tactic(auto)]
+
 ghost use Rattle.std.specs.Prelude.{◌≡◌, option_map};
 ghost use Rattle.serde_json.specs.View.{view, items_view};
-ghost use Rattle.typify_run.specs.Input.{parts_of};
+ghost use Rattle.run_input.specs.Input.{limit, parts_of};
 
 use serde_json::Value;
 
-/// The schema and the values of an input: the object has exactly the members `schema` and `values`, the latter a list.
+/// The most bytes of an input.
+pub const LIMIT: usize = 16_777_216;
+
+/// The schema and the values of an input.
 #[derive(Clone, Copy)]
-pub(crate) struct InputParts<'a> {
+pub struct InputParts<'a> {
     pub schema: &'a Value,
     pub values: &'a Vec<Value>,
 }
 
-/// The parts of an input, where it has them.
-pub(crate) fn input_parts(value: &Value) -> Option<InputParts<'_>>
+/// The parts of an input: of an object with exactly the members `schema` and `values`, the latter a list.
+pub fn input_parts(value: &Value) -> Option<InputParts<'_>>
     ensures { option_map (λ p. record { schema = view p.schema.now; values = items_view p.values.now.items }) result ≡ parts_of (view value.now) }
 {
     let Value::Object(members) = value else {

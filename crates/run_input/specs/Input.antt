@@ -1,6 +1,6 @@
 -- The input: at most 16,777,216 bytes that are JSON (RFC 8259, as `serde_json` reads it), an object with exactly the members `schema` and `values`, the latter a list.
-use Rattle.std.specs.Prelude.{◌≡◌, ◌≤◌, ℕ, ◌&&◌, List, length, Bool, Option, Some, None, IsUtf8, bytes_eq, codes, if◌then◌else◌}
-use Rattle.serde_json.specs.Data.{Data, object, array, Items, member, no_members}
+use Rattle.std.specs.Prelude.{◌≡◌, ◌≤◌, ℕ, ◌&&◌, List, [], ◌∷◌, length, Bool, Option, Some, None, IsUtf8, bytes_eq, codes, if◌then◌else◌}
+use Rattle.serde_json.specs.Data.{Data, object, array, Items, no_items, item, member, no_members}
 use Rattle.serde_json.specs.Read.{read as read_text}
 
 -- the most bytes of an input
@@ -14,6 +14,11 @@ whole bytes = bytes
 pub record Parts : Type 0 where
   pub schema : Data
   pub values : Items
+
+-- the values of an input, in a list
+abbrev pub data_of : Items → List Data
+data_of no_items = []
+data_of (item d ds) = d ∷ data_of ds
 
 abbrev pub are_parts : List ℕ → List ℕ → Bool
 are_parts m n = bytes_eq m (codes "schema") && bytes_eq n (codes "values")

@@ -2,7 +2,7 @@
 use Rattle.std.proofs.Common.{◌≡◌, refl, ap, List, [], ◌∷◌}
 use Rattle.serde_json.specs.Data.{Data}
 use Rattle.serde_json.specs.View.{items_of}
-use Rattle.typify_run.specs.Outcome.{data_of}
+use Rattle.run_input.specs.Input.{data_of}
 
 pub data_of_items : (ds : List Data) → data_of (items_of ds) ≡ ds
 data_of_items [] = refl

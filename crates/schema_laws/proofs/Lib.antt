@@ -1,0 +1,13 @@
+pub mod Options
+pub mod Fine
+pub mod Reading
+pub mod Resolved
+pub mod Stand
+pub mod Told
+pub mod Small
+pub mod Leads
+pub mod Located
+pub mod ToldReferences
+pub mod Origins
+pub mod ReadFrom
+pub mod Wide

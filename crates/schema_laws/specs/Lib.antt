@@ -1,0 +1,4 @@
+pub mod ValueAt
+pub mod Laws
+pub mod WideNumbers
+pub mod Examples
