@@ -1,0 +1,49 @@
+//! The program `admission`: one JSON object with a schema and a list of values on standard input, a verdict for each value
+//! on standard output, and the status of the run as the process's.
+#![tactic(auto)]
+
+use admission_run::run;
+use run_io::{StdSink, StdSource};
+use schema_tree::PlainTexts;
+use std::env;
+use std::process::ExitCode;
+
+const HELP: &str = "admission
+
+Reads one JSON object with exactly the members `schema`, a JSON Schema, and `values`, a list, from standard input
+(at most 16,777,216 bytes), and prints a line for each value, counted from 0: `value I admitted` where the schema admits
+it, else `value I refused`. Or it prints one line that names a fault: the first number of the values that isn't an i64,
+or else the first fault of the schema.
+
+The program follows the definition of JSON Schema Draft 7 step by step, and isn't fast. It knows no patterns and no
+formats of texts: no text has a pattern, and none has the format uuid, date, date-time, ip, ipv4 or ipv6.
+
+Status: 0 a line for each value was printed, 1 one line names a fault, 2 there are words on the command line, 3 the input
+is too long or isn't that object, 4 reading failed, 5 writing failed, 6 memory ran out.";
+
+fn main(rt: HostRuntime) -> ExitCode {
+    let alloc = rt.alloc();
+    let words = match env::args(&rt) {
+        Ok(args) => args.skip(1).collect::<Vec<String>>(alloc),
+        Err(error) if error.kind() == std::io::ErrorKind::OutOfMemory => return ExitCode::from(6),
+        Err(_) => return ExitCode::from(2),
+    };
+    let Ok(words) = words else {
+        return ExitCode::from(6);
+    };
+    match words.as_slice() {
+        [] => {}
+        [word] if word.as_str() == "--help" => {
+            return match println!(rt; "{HELP}") {
+                Ok(()) => ExitCode::SUCCESS,
+                Err(_) => ExitCode::from(5),
+            };
+        }
+        _ => return ExitCode::from(2),
+    }
+    let mut source = StdSource::new(&rt);
+    let mut sink = StdSink::new(&rt);
+    let mut texts = PlainTexts::new(alloc);
+    let outcome = run(alloc, &mut source, &mut sink, &mut texts);
+    ExitCode::from(outcome.status())
+}

@@ -1,0 +1,3 @@
+pub mod Verdicts
+pub mod Page
+pub mod Outcome

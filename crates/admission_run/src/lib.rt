@@ -1,0 +1,15 @@
+//! Schema documents and values in, verdicts out: which of the values a document admits (JSON Schema Draft 7, in the
+//! profile that is read), by its definition.
+#![tactic(auto)]
+
+mod judging;
+mod lines;
+mod outcome;
+#[cfg(test)]
+mod tests;
+mod top;
+
+pub use judging::verdicts;
+pub use lines::page;
+pub use outcome::Outcome;
+pub use top::run;
