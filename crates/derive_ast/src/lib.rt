@@ -2,7 +2,5 @@
 #![tactic(auto)]
 
 mod container;
-#[cfg(test)]
-mod tests;
 
 pub use container::{Container, Data, Field, Style, Variant};

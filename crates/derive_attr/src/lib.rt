@@ -6,8 +6,6 @@ mod ctxt;
 mod derive;
 mod rename;
 mod symbol;
-#[cfg(test)]
-mod tests;
 
 pub use ctxt::{Ctxt, DiagKind, Diagnostic};
 pub use derive::Derive;

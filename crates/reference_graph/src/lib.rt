@@ -7,8 +7,6 @@ ghost use Rattle.reference_graph.specs.Graph.{graph_of, Leads, IsAcyclic, IsLoop
 pub mod laws;
 mod rank;
 mod search;
-#[cfg(test)]
-mod tests;
 
 use rank::{is_ranking, ranks_of};
 use search::loop_through;

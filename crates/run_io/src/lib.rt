@@ -7,8 +7,6 @@ mod memory;
 mod outside;
 mod schedule;
 mod standard;
-#[cfg(test)]
-mod tests;
 mod transfer;
 
 pub use fault::{Failed, InputFault, SinkFault};

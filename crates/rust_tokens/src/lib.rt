@@ -10,8 +10,6 @@ mod laws;
 mod lexer;
 mod name;
 mod partners;
-#[cfg(test)]
-mod tests;
 mod white;
 
 pub use error::LexError;

@@ -1,9 +1,7 @@
-//! Tests of the parsers of texts: a table of texts with their trees, or with the kind of their error.
+//! Tests of tokens and syntax that are no table of texts: deep brackets, the texts of errors, and the cursor over metas.
 #![tactic(auto)]
 
 #[cfg(test)]
-mod show;
+mod cursor;
 #[cfg(test)]
-mod table;
-#[cfg(test)]
-mod tests;
+mod deep;
