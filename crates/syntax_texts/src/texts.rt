@@ -11,6 +11,7 @@ ghost use Rattle.syntax_parsers.specs.Lifetimes.{lifetimes_of};
 ghost use Rattle.syntax_parsers.specs.Whole.{path_of, expr_path_of, type_of, predicates_of};
 ghost use Rattle.syntax_texts.specs.Texts.{ReadsText, IsFaultOf, IsLexFault};
 
+use crate::nesting::is_shallow;
 use rust_tokens::{LexError, TokenStream, lex};
 use std::alloc::Global;
 use syntax_parsers::{
@@ -33,12 +34,24 @@ fn tokens_of(alloc: Global, lit: &LitStr) -> Result<TokenStream, ParseFault>
     }
 }
 
+// The tokens of the text, whose types are nested as deep as they may be, or less; else memory is said to run out.
+fn shallow_tokens_of(alloc: Global, lit: &LitStr) -> Result<TokenStream, ParseFault>
+    ensures tokens { IfOk result (λ s. IsLexed (chars (lit_str_view lit.now).text) lit.now.span (stream s)) }
+    ensures fault { IfErr result (IsLexFault (lit_str_view lit.now)) }
+{
+    let tokens = tokens_of(alloc, lit)?;
+    match is_shallow(alloc, tokens.trees()) {
+        Ok(true) => Ok(tokens),
+        _ => Err(ParseFault::Memory),
+    }
+}
+
 /// The path of the text, as `std::vec::Vec<T>`.
 pub fn parse_path(alloc: Global, lit: &LitStr) -> Result<Path, ParseFault>
     ensures path { IfOk result (λ p. ReadsText path_of (lit_str_view lit.now) (Ok (path_view p))) }
     ensures fault { IfErr result (IsFaultOf path_of (lit_str_view lit.now)) }
 {
-    let tokens = tokens_of(alloc, lit)?;
+    let tokens = shallow_tokens_of(alloc, lit)?;
     let path = read_whole_path(alloc, lit.span, tokens.trees())?;
     Ok(path)
 }
@@ -48,7 +61,7 @@ pub fn parse_expr_path(alloc: Global, lit: &LitStr) -> Result<ExprPath, ParseFau
     ensures path { IfOk result (λ p. ReadsText expr_path_of (lit_str_view lit.now) (Ok (expr_path_view p))) }
     ensures fault { IfErr result (IsFaultOf expr_path_of (lit_str_view lit.now)) }
 {
-    let tokens = tokens_of(alloc, lit)?;
+    let tokens = shallow_tokens_of(alloc, lit)?;
     let path = read_whole_expr_path(alloc, lit.span, tokens.trees())?;
     Ok(path)
 }
@@ -58,7 +71,7 @@ pub fn parse_type(alloc: Global, lit: &LitStr) -> Result<Ty, ParseFault>
     ensures tree { IfOk result (λ t. ReadsText type_of (lit_str_view lit.now) (Ok (ty t))) }
     ensures fault { IfErr result (IsFaultOf type_of (lit_str_view lit.now)) }
 {
-    let tokens = tokens_of(alloc, lit)?;
+    let tokens = shallow_tokens_of(alloc, lit)?;
     let tree = read_whole_type(alloc, lit.span, tokens.trees())?;
     Ok(tree)
 }
@@ -68,7 +81,7 @@ pub fn parse_where(alloc: Global, lit: &LitStr) -> Result<Vec<WherePredicate>, P
     ensures predicates { IfOk result (λ v. ReadsText predicates_of (lit_str_view lit.now) (Ok (map predicate_view v.items))) }
     ensures fault { IfErr result (IsFaultOf predicates_of (lit_str_view lit.now)) }
 {
-    let tokens = tokens_of(alloc, lit)?;
+    let tokens = shallow_tokens_of(alloc, lit)?;
     let predicates = read_where(alloc, lit.span, tokens.trees())?;
     Ok(predicates)
 }
