@@ -1,0 +1,4 @@
+pub mod Walks
+pub mod Same
+pub mod Gone
+mod Examples

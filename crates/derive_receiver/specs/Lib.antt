@@ -1,0 +1,5 @@
+pub mod Own
+pub mod Replaced
+pub mod Free
+pub mod Laws
+pub mod View
