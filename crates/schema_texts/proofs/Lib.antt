@@ -1,0 +1,6 @@
+pub mod Bools
+pub mod Cuts
+pub mod Numbers
+pub mod Parts
+pub mod Addresses
+pub mod Tables
