@@ -1,0 +1,4 @@
+pub mod Longest
+pub mod Runs
+pub mod Segments
+pub mod Settled
