@@ -1,3 +1,4 @@
 pub mod Verdicts
 pub mod Page
 pub mod Outcome
+pub mod Words

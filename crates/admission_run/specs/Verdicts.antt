@@ -4,10 +4,11 @@ use Rattle.serde_json.specs.Data.{Data}
 use Rattle.run_io.specs.Bytes.{Rises}
 use Rattle.json_value.specs.Value.{Value}
 use Rattle.json_value.specs.View.{value_of}
+use Rattle.schema_defs.specs.declared.Setting.{Setting}
 use Rattle.schema_defs.specs.Texts.{Relations}
 use Rattle.schema_defs.specs.Schema.{Document}
 use Rattle.schema_defs.specs.Admits.{admits}
-use Rattle.schema_tree.specs.Document.{IsReadAs, HasFault}
+use Rattle.schema_tree.specs.Document.{IsReadAs, IsAccepted, HasFault}
 use Rattle.schema_tree.specs.Fault.{FaultD, memory, texts, value_number}
 use Rattle.schema_tree.specs.Numbers.{are_i64, HasWideNumber}
 
@@ -19,16 +20,12 @@ document_admits r d v = admits r d (value_of v) d.root
 abbrev pub verdicts_of : Relations → Document → List Data → List Bool
 verdicts_of r d vs = map (document_admits r d) vs
 
--- the values' numbers are i64, and the answers are those of the document that the schema is
-pub record AreVerdicts (r : Relations) (schema : Value) (values : List Data) (answers : List Bool) : Type 0 where
+-- the values' numbers are i64, and the answers are those of the document that the schema is under the setting
+pub record AreVerdicts (setting : Setting) (r : Relations) (schema : Value) (values : List Data) (answers : List Bool) : Type 0 where
   pub numbers : are_i64 values ≡ true
   pub document : Document
-  pub is_read : IsReadAs schema document
+  pub is_read : IsReadAs setting schema document
   pub exact : answers ≡ verdicts_of r document values
-
--- the schema is a document that no fault keeps from being read
-abbrev pub IsAccepted : Value → Type 0
-IsAccepted schema = (d : Document) × IsReadAs schema d
 
 -- the cause of a fault, where the judge of texts had so many faults before and after: the first number of the values that is no i64; else the first fault of the document; else, told at the root, that the judge failed
 abbrev pub IsCause : ℕ → ℕ → Value → List Data → FaultD → Type 0

@@ -7,26 +7,27 @@ ghost use Rattle.schema_tree.specs.Fault.{fault_view};
 ghost use Rattle.admission_run.specs.Verdicts.{AreVerdicts, IsRefusal, IsUnjudged, document_admits, verdicts_of};
 
 use schema_admission::admits;
-use schema_tree::{Document, Fault, Location, TextFault, Texts, check_values};
+use schema_tree::{Document, Fault, Location, Setting, TextFault, Texts, check_values};
 use serde_json::Value;
 use std::alloc::Global;
 
-/// Whether the document that the schema is admits each of the values, in order. Refused are a number of a value that
-/// isn't an i64 (`ValueNumber`), then the faults of `Document::read`, then a judge of texts that failed (`Texts`, at the
-/// root). Fails with `Memory` where memory runs out.
+/// Whether the document that the schema is under the setting admits each of the values, in order. Refused are a number of
+/// a value that isn't an i64 (`ValueNumber`), then the faults of `Document::read`, then a judge of texts that failed
+/// (`Texts`, at the root). Fails with `Memory` where memory runs out.
 pub fn verdicts<T: Texts>(
     alloc: Global,
     schema: &Value,
     values: &[Value],
     texts: &mut T,
+    setting: Setting,
 ) -> Result<Vec<bool>, Fault>
-    ensures answers { IfOk result (λ bs. AreVerdicts (T.relations texts.old) (value_of (view schema.now)) (map view values.now) bs.items) }
+    ensures answers { IfOk result (λ bs. AreVerdicts setting (T.relations texts.old) (value_of (view schema.now)) (map view values.now) bs.items) }
     ensures refused { IfErr result (λ f. IsRefusal (T.faults texts.old) (T.faults texts.new) (value_of (view schema.now)) (map view values.now) (fault_view f)) }
     ensures keeps { T.relations texts.new ≡ T.relations texts.old }
     ensures counts { T.faults texts.old ≤ T.faults texts.new }
 {
     check_values(alloc, values)?;
-    let document = Document::read(alloc, schema)?;
+    let document = Document::read_with(alloc, schema, setting)?;
     let answers = judge_all(alloc, &document, values, texts)?;
     Ok(answers)
 }

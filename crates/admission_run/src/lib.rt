@@ -5,11 +5,11 @@
 mod judging;
 mod lines;
 mod outcome;
-#[cfg(test)]
-mod tests;
 mod top;
+mod words;
 
 pub use judging::verdicts;
 pub use lines::page;
 pub use outcome::Outcome;
 pub use top::run;
+pub use words::setting_of_words;

@@ -33,3 +33,7 @@ pub record IsInput (bytes : List ℕ) (parts : Parts) : Type 0 where
   pub short : length bytes ≤ limit
   pub utf8 : IsUtf8 (whole bytes)
   pub read : (d : Data) × (read_text (whole bytes) ≡ Some d) × (parts_of d ≡ Some parts)
+
+-- the bytes are no input
+abbrev pub IsNoInput : List ℕ → Type 0
+IsNoInput bytes = (parts : Parts) → IsInput bytes parts → ⊥

@@ -1,7 +1,8 @@
 -- A name among the members of an object.
-use Rattle.std.proofs.Common.{◌≡◌, ◌≤◌, ◌+◌, ℕ, suc, List, [], ◌∷◌, length, Bool, true, false, ◌||◌, ◌&&◌, arith, bytes_eq, sym, is_some, cond, String, Global, string_bytes, nat_cmp, Some, None, Option, refl, ap, ◌∙◌}
+use Rattle.std.proofs.Common.{◌≡◌, ◌≤◌, ◌+◌, ℕ, suc, List, [], ◌∷◌, length, map, Bool, true, false, ◌||◌, ◌&&◌, arith, bytes_eq, sym, is_some, cond, String, Global, string_bytes, nat_cmp, Some, None, Option, refl, ap, ◌∙◌}
 use Rattle.std.proofs.lemmas.Map.Text.{is_eq-slice_cmp}
 use Rattle.std.specs.Cmp.Lexicographic.{slice_cmp}
+use Rattle.std.specs.List.{list_any}
 use Rattle.std.specs.Map.{lookup}
 use Rattle.std.specs.BTreeMap.{is_at}
 use Rattle.serde_json.specs.View.{members_view}
@@ -23,6 +24,11 @@ either false v o rest h = h
 pub names_found : (n : List ℕ) (es : List (String Global × Value)) → is_some (lookup (is_at (λ k. slice_cmp nat_cmp n (string_bytes k))) es) ≡ has_name n (members_of (members_view es))
 names_found n [] = refl
 names_found n (e ∷ es) = either _ e.1 _ _ (names_found n es) ∙ ap (λ b. b || has_name n (members_of (members_view es))) (is_eq-slice_cmp n (string_bytes e.0))
+
+-- a name among required names
+pub listed_among : (n : List ℕ) (ks : List (String Global)) → list_any (is_at (λ k. slice_cmp nat_cmp n (string_bytes k))) ks ≡ list_any (bytes_eq n) (map string_bytes ks)
+listed_among n [] = refl
+listed_among n (k ∷ ks) = λ i. is_eq-slice_cmp n (string_bytes k) i || listed_among n ks i
 
 found_cond : (b : Bool) (s : Schema) (o : Option Schema) (m : MaybeSchema) → maybe_seen o ≡ m → maybe_seen (cond b (Some s) o) ≡ cond b (the_schema (schema_view s)) m
 found_cond true s o m h = refl

@@ -9,7 +9,7 @@ use Rattle.json_value.specs.View.{items_of, members_of}
 use Rattle.schema_defs.specs.Schema.{Schema, Named, named, no_named, Definition, Document}
 use Rattle.schema_defs.specs.Texts.{Relations}
 use Rattle.schema_defs.specs.Layer.{named_agree}
-use Rattle.schema_defs.specs.Admits.{admits, admits_with, admits-level, allowed, target, defined, defined_as, definition_name, is_root_reference, follows, follow, parts_of, member_judges}
+use Rattle.schema_defs.specs.Admits.{admits, admits_with, admits-level, allowed, target, defined, defined_as, definition_name, is_root_reference, follows, follow, parts_of, member_parts}
 use Rattle.schema_types.specs.View.{kept_view}
 use Rattle.schema_admission.specs.Sizes.{schema_size, definitions_size, document_size}
 use Rattle.schema_admission.specs.Judging.{named_member, rules_part}
@@ -67,11 +67,11 @@ followed r d v left n q s e h = ap (λ k. follows r d v (parts_of r d v) k q) e 
 pub missing : (r : Relations) (d : Document) (v : Value) (left n : ℕ) (q : List ℕ) → left ≡ suc n → target d q ≡ None → follows r d v (parts_of r d v) left q ≡ false
 missing r d v left n q e h = ap (λ k. follows r d v (parts_of r d v) k q) e ∙ ap (follow (admits_with r d n v)) h
 
-no_keywords : (r : Relations) (d : Document) (ms : Members) → true ≡ (list_all (named_member r d no_named) (member_judges r d ms) && true)
+no_keywords : (r : Relations) (d : Document) (ms : Members) → true ≡ (list_all (named_member r d no_named) (member_parts r d ms) && true)
 no_keywords r d no_members = refl
 no_keywords r d (member k v ms) = no_keywords r d ms
 
 -- the keywords of objects, as those of each member and the others
-pub named_split : (r : Relations) (d : Document) (ms : Members) (n : Named) → named_agree r ms (parts_of r d (object ms)) n ≡ (list_all (named_member r d n) (member_judges r d ms) && rules_part ms n)
+pub named_split : (r : Relations) (d : Document) (ms : Members) (n : Named) → named_agree r ms (parts_of r d (object ms)) n ≡ (list_all (named_member r d n) (member_parts r d ms) && rules_part ms n)
 named_split r d ms no_named = no_keywords r d ms
 named_split r d ms (named props patterns rest names rules) = refl

@@ -8,7 +8,7 @@ use Rattle.serde_json.specs.declared.value.Value.{Value as Json}
 use Rattle.schema_defs.specs.Schema as defs
 use Rattle.schema_defs.specs.Schema.{Plain, Schema, boolean, object, Same, same_value, Lists, lists, Named, named, MaybeSchema, MaybeSchemas, Places, each_item, by_place}
 use Rattle.schema_defs.specs.Texts.{Relations}
-use Rattle.schema_defs.specs.Layer.{Judge, of_kind_agrees, if_given, types_agree, is_listed, parts_agree, lists_agree, items_agree, contains_agrees, within, all_distinct, maybe, property_at, patterns_agree, is_given, has_any}
+use Rattle.schema_defs.specs.Layer.{Judge, MemberPart, is_passed_over, of_kind_agrees, if_given, types_agree, is_listed, parts_agree, lists_agree, items_agree, contains_agrees, within, all_distinct, maybe, property_at, patterns_agree, is_given, has_any}
 use Rattle.schema_defs.specs.Admits.{admits_with, parts_of, name_admits}
 use Rattle.schema_types.specs.View.{kept_view, types_view, numbers_view, texts_view, maybe_of, same_of, lists_of, named_of, places_of, maybe_list, items_step, schema_step, array_step, members_step, object_step, subschemas_step, schema_view, items_view, array_view, members_view, object_view, subschemas_view, schemas_view, properties_view, maybe_view, maybe_list_view}
 use Rattle.schema_types.specs.declared.schema.Schema as tree
@@ -173,11 +173,12 @@ pub object_less : (s : tree.Schema) (b : Box SchemaObject Global) → s ≡ Obje
 object_less s b e = ap (λ x. schema_size (schema_view x)) e ∙ ap schema_size (schema_view-Object b)
 
 -- what binds one member
-pub member-out : (r : Relations) (d : defs.Document) (o : ObjectValidation) (n : List ℕ) (j : Judge) → named_member r d (members_view o) (n, j)
-    ≡ (maybe j (property_at n (properties_view (out-ObjectValidation o).properties.entries)) && patterns_agree (λ q. r.matches q n) j (properties_view (out-ObjectValidation o).pattern_properties.entries)
-    && (is_given (property_at n (properties_view (out-ObjectValidation o).properties.entries)) || has_any (λ q. r.matches q n) (properties_view (out-ObjectValidation o).pattern_properties.entries) || maybe j (maybe_view (out-ObjectValidation o).additional_properties))
-    && maybe (name_admits r d n) (maybe_view (out-ObjectValidation o).property_names))
-member-out r d o n j = ap (λ m. named_member r d m (n, j)) (members_view-out o)
+pub member-out : (r : Relations) (d : defs.Document) (o : ObjectValidation) (m : MemberPart) → named_member r d (members_view o) m
+    ≡ ((is_passed_over (map string_bytes (out-ObjectValidation o).required.keys) m || maybe m.says (property_at m.name (properties_view (out-ObjectValidation o).properties.entries)))
+    && patterns_agree (λ q. r.matches q m.name) m.says (properties_view (out-ObjectValidation o).pattern_properties.entries)
+    && (is_given (property_at m.name (properties_view (out-ObjectValidation o).properties.entries)) || has_any (λ q. r.matches q m.name) (properties_view (out-ObjectValidation o).pattern_properties.entries) || maybe m.says (maybe_view (out-ObjectValidation o).additional_properties))
+    && maybe (name_admits r d m.name) (maybe_view (out-ObjectValidation o).property_names))
+member-out r d o m = ap (λ n. named_member r d n m) (members_view-out o)
 
 pub rules-out : (o : ObjectValidation) (ms : Members) → rules_part ms (members_view o)
     ≡ (within (out-ObjectValidation o).min_properties (out-ObjectValidation o).max_properties (member_count ms) && list_all (λ n. has_name n ms) (map string_bytes (out-ObjectValidation o).required.keys))

@@ -4,8 +4,8 @@ use Rattle.json_value.specs.Value.{Value, Items, item, no_items, Members, number
 use Rattle.schema_defs.specs.Schema.{Numbers, Texts, Schema, boolean, object, Same, MaybeSchema, no_schema, the_schema, MaybeSchemas, Schemas, no_more, schema, Named, no_named, named, Document}
 use Rattle.schema_defs.specs.Texts.{Relations}
 use Rattle.schema_defs.specs.Integers.{in_range}
-use Rattle.schema_defs.specs.Layer.{Judge, maybe, if_given, numbers_agree, number_format_agrees, texts_agree, text_format_agrees, within, plain_agrees, member_agrees, member_rules_agree, judge_same, judge_all_of, judge_any_of, judge_one_of, judge_not, judge_count}
-use Rattle.schema_defs.specs.Admits.{admits, follows, parts_of, name_admits}
+use Rattle.schema_defs.specs.Layer.{Judge, MemberPart, maybe, if_given, numbers_agree, number_format_agrees, texts_agree, text_format_agrees, within, plain_agrees, member_agrees, member_rules_agree, judge_same, judge_all_of, judge_any_of, judge_one_of, judge_not, judge_count}
+use Rattle.schema_defs.specs.Admits.{counts_as_absent, admits, follows, parts_of, name_admits}
 use Rattle.schema_types.specs.View.{schema_view}
 use Rattle.schema_types.specs.declared.schema.Schema as tree
 use Rattle.schema_admission.specs.declared.wanted.Wanted.{Wanted}
@@ -65,10 +65,14 @@ module _ (r : Relations) (d : Document) where
   admitted_count s no_items = 0
   admitted_count s (item v vs) = if admits r d v s then suc (admitted_count s vs) else admitted_count s vs
 
+  -- a member of that name with that value
+  abbrev pub member_part : List ℕ → Value → MemberPart
+  member_part n v = record { name = n; as_absent = counts_as_absent d.setting v; says = admits r d v }
+
   -- what the keywords of objects say of one member
-  abbrev pub named_member : Named → (List ℕ × Judge) → Bool
+  abbrev pub named_member : Named → MemberPart → Bool
   named_member no_named m = true
-  named_member (named props patterns rest names rules) m = member_agrees r (name_admits r d) props patterns rest names m
+  named_member (named props patterns rest names rules) m = member_agrees r (name_admits r d) props patterns rest names rules.required m
 
 -- the counts and the required names
 abbrev pub rules_part : Members → Named → Bool

@@ -11,9 +11,11 @@ ghost use Rattle.schema_defs.specs.Admits.{admits as admits_in, admits_with, all
 ghost use Rattle.schema_types.specs.View.{array_view, items_view, kept_view, lists_of, maybe_list_view, maybe_view, members_view, named_of, object_view, places_of, properties_view, same_of, schema_view, schemas_view, subschemas_view};
 ghost use Rattle.schema_types.specs.DocumentView.{document_view};
 ghost use Rattle.schema_admission.specs.Sizes.{document_size, lists_size, maybe_size, maybes_size, named_size, places_size, properties_size, same_size, schema_size, schemas_size};
-ghost use Rattle.schema_admission.specs.Judging.{admitted_count, list_agrees as list_says, maybe_seen, named_member, negation_agrees, reference_agrees, same_agrees};
+ghost use Rattle.schema_admission.specs.Judging.{admitted_count, list_agrees as list_says, maybe_seen, member_part, named_member, negation_agrees, reference_agrees, same_agrees};
 
-use crate::list::{at_place, is_distinct, rules_agree, text_value, unless};
+use crate::list::{
+    at_place, is_distinct, is_passed_over, property_unless, rules_agree, text_value, unless,
+};
 use crate::plain::{all_of, counted, either, is_within};
 use crate::reference::allowed;
 use crate::text::{has_any, plain_agrees};
@@ -472,12 +474,13 @@ fn member_agrees<T: Texts>(
 ) -> Result<bool, TextFault>
     requires { named_size (members_view object.now) ≤ document_size (document_view document.now) }
     ensures answer { IfOk result (λ b. b ≡ named_member (T.relations texts.old) (document_view document.now) (members_view object.now)
-        (name.now, admits_in (T.relations texts.old) (document_view document.now) (kept_view value.now))) }
+        (member_part (T.relations texts.old) (document_view document.now) name.now (kept_view value.now))) }
     ensures keeps { T.relations texts.new ≡ T.relations texts.old }
     ensures failed { IsErrOf result TextFault.Failed → Rises (T.faults texts.old) (T.faults texts.new) }
     ensures counts { T.faults texts.old ≤ T.faults texts.new }
 {
-    let property = object.properties.get(name);
+    let passed = is_passed_over(document.setting(), &object.required, name, value);
+    let property = property_unless(passed, &object.properties, name);
     let by_name = maybe_agrees(alloc, document, texts, property, value)?;
     let patterns = &object.pattern_properties;
     let by_pattern = patterns_agree(alloc, document, texts, patterns, name, value)?;

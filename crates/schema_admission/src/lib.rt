@@ -10,8 +10,3 @@ mod text;
 mod wanted;
 
 pub use judge::admits;
-
-#[cfg(test)]
-mod tests;
-#[cfg(test)]
-mod vectors;

@@ -1,23 +1,24 @@
 //! Keywords of lists and of objects that hold no schema.
-ghost use Rattle.std.specs.Prelude.{◌≡◌, ◌||◌, not, map, string_bytes, IfOk, IfErr, if◌then◌else◌};
-ghost use Rattle.std.specs.List.{list_all};
+ghost use Rattle.std.specs.Prelude.{◌≡◌, ◌||◌, ◌&&◌, not, bytes_eq, map, string_bytes, IfOk, IfErr, if◌then◌else◌};
+ghost use Rattle.std.specs.List.{list_all, list_any};
 ghost use Rattle.std.specs.Option.{option_copied};
 ghost use Rattle.serde_json.specs.View.{items_view, members_view};
 ghost use Rattle.json_value.specs.Value.{has_name as has_name_in, is_among as is_among_in, text as text_in};
 ghost use Rattle.json_value.specs.View.{items_of, members_of};
-ghost use Rattle.schema_defs.specs.Layer.{all_distinct as all_distinct_in, if_given};
+ghost use Rattle.schema_defs.specs.Layer.{all_distinct as all_distinct_in, if_given, property_at};
+ghost use Rattle.schema_defs.specs.Admits.{counts_as_absent as counts_as_absent_in};
 ghost use Rattle.schema_defs.specs.Schema.{no_schema, schemas as schemas_in};
-ghost use Rattle.schema_types.specs.View.{kept_view, maybe_view, members_view as members_seen, schemas_view};
+ghost use Rattle.schema_types.specs.View.{kept_view, maybe_view, members_view as members_seen, properties_view, schemas_view};
 ghost use Rattle.schema_admission.specs.Judging.{maybe_seen, place_schema, rules_part};
 
 use crate::plain::{both, is_within};
 use json_value::same;
 use schema_tree::TextFault;
-use schema_types::{ObjectValidation, Schema};
+use schema_types::{ObjectValidation, Schema, Setting};
 use serde_json::Value;
 use serde_json::value::Map;
 use std::alloc::Global;
-use std::collections::BTreeSet;
+use std::collections::{BTreeMap, BTreeSet};
 
 fn is_among(value: &Value, values: &[Value]) -> bool
     ensures { result ≡ is_among_in (kept_view value.now) (items_of (items_view values.now)) }
@@ -59,6 +60,58 @@ fn has_each(required: &BTreeSet<String>, members: &Map<String, Value>) -> bool
         }
     }
     true
+}
+
+// Whether a member that has the value may stand for one that is absent.
+#[tactic(auto, using(crate::proofs::Numbers::number_is_no_absence))]
+fn counts_as_absent(setting: Setting, value: &Value) -> bool
+    ensures { result ≡ counts_as_absent_in setting (kept_view value.now) }
+{
+    match (setting, value) {
+        (Setting::NullAbsent, Value::Null) => true,
+        _ => false,
+    }
+}
+
+fn is_required(required: &BTreeSet<String>, name: &str) -> bool
+    ensures { result ≡ list_any (bytes_eq name.now) (map string_bytes required.now.keys) }
+{
+    required.contains(name)
+}
+
+/// Whether `properties` passes over the member: it may stand for its absence, and isn't required.
+pub fn is_passed_over(
+    setting: Setting,
+    required: &BTreeSet<String>,
+    name: &str,
+    value: &Value,
+) -> bool
+    ensures { result ≡ (counts_as_absent_in setting (kept_view value.now) && not (list_any (bytes_eq name.now) (map string_bytes required.now.keys))) }
+{
+    let absent = counts_as_absent(setting, value);
+    let listed = is_required(required, name);
+    both(absent, !listed)
+}
+
+fn property_of<'a>(properties: &'a BTreeMap<String, Schema>, name: &str) -> Option<&'a Schema>
+    ensures { maybe_seen (option_copied result) ≡ property_at name.now (properties_view properties.now.entries) }
+{
+    properties.get(name)
+}
+
+/// The property of that name, unless it is passed over.
+pub fn property_unless<'a>(
+    passed: bool,
+    properties: &'a BTreeMap<String, Schema>,
+    name: &str,
+) -> Option<&'a Schema>
+    ensures { maybe_seen (option_copied result) ≡ (if passed then no_schema else property_at name.now (properties_view properties.now.entries)) }
+{
+    if passed {
+        None
+    } else {
+        property_of(properties, name)
+    }
 }
 
 /// Whether no two items are the same, where `unique` asks that.

@@ -118,7 +118,8 @@ same_bool-itself : (b : Bool) → same_bool b b ≡ true
 same_bool-itself true = refl
 same_bool-itself false = refl
 
-defined_named : (n : List ℕ) (ds : List Definition) (e : Definition) → defined n ds ≡ Some e → (n ≡ e.name) × Contains ds e
+-- a definition that is found has the name that was sought
+pub defined_named : (n : List ℕ) (ds : List Definition) (e : Definition) → defined n ds ≡ Some e → (n ≡ e.name) × Contains ds e
 defined_named n [] e h = absurd (none_is_not e h)
 defined_named n (d ∷ ds) e h = by_test (bytes_eq n d.name) refl (defined_named n ds e) h
   where

@@ -7,3 +7,4 @@ pub mod Guarded
 pub mod Decided
 pub mod Mapped
 pub mod Rising
+pub mod Settings

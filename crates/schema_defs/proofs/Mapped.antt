@@ -6,8 +6,8 @@ use Rattle.json_value.specs.Value as value
 use Rattle.json_value.specs.Value.{Value, Items, Members, null, number, fraction, text, list, item, no_items as end_items, member, no_members}
 use Rattle.schema_defs.specs.Texts.{Relations}
 use Rattle.schema_defs.specs.Schema.{Plain, Schema, boolean, object, Same, no_same, same_value, Lists, no_lists, lists, Named, no_named, named, MaybeSchema, no_schema, the_schema, MaybeSchemas, no_list, the_list, Schemas, no_more, schema, Places, no_items, each_item, by_place, Properties, no_properties, property, Definition, Document}
-use Rattle.schema_defs.specs.Layer.{Judge, Parts, if_given, plain_agrees, maybe, by_places, items_agree, contains_agrees, list_rules_agree, lists_agree, property_at, is_given, patterns_agree, has_any, member_agrees, member_rules_agree, named_agree, parts_agree, judge, judge_same, judge_all_of, judge_any_of, judge_one_of, judge_not, judge_all, judge_any, judge_count}
-use Rattle.schema_defs.specs.Admits.{defined, defined_as, definition_name, is_root_reference, target, allowed, follow, follows, admits, item_judges, member_judges, parts_of, no_parts, judge_within}
+use Rattle.schema_defs.specs.Layer.{Judge, MemberPart, Parts, if_given, plain_agrees, maybe, by_places, items_agree, contains_agrees, list_rules_agree, lists_agree, property_at, is_given, patterns_agree, has_any, member_agrees, member_rules_agree, named_agree, parts_agree, judge, judge_same, judge_all_of, judge_any_of, judge_one_of, judge_not, judge_all, judge_any, judge_count}
+use Rattle.schema_defs.specs.Admits.{defined, defined_as, definition_name, is_root_reference, target, allowed, follow, follows, admits, item_judges, member_parts, parts_of, no_parts, judge_within}
 use Rattle.schema_defs.specs.Mapped.{mapped, mapped_same, mapped_lists, mapped_named, mapped_maybe, mapped_list, mapped_all, mapped_places, mapped_properties, mapped_definition, mapped_document, bare, unwalked}
 use Rattle.schema_defs.specs.Laws.{NoAnnotationMatters}
 
@@ -26,9 +26,14 @@ module _
     SameJudges (j ∷ js) (k ∷ ks) = SameJudge j k × SameJudges js ks
     SameJudges _ _ = ⊥
 
-    abbrev SameMembers : List (List ℕ × Judge) → List (List ℕ × Judge) → Type 0
+    record SameMember (a b : MemberPart) : Type 0 where
+      name : a.name ≡ b.name
+      as_absent : a.as_absent ≡ b.as_absent
+      says : SameJudge a.says b.says
+
+    abbrev SameMembers : List MemberPart → List MemberPart → Type 0
     SameMembers [] [] = Unit {0}
-    SameMembers (j ∷ js) (k ∷ ks) = (j.0 ≡ k.0) × SameJudge j.1 k.1 × SameMembers js ks
+    SameMembers (j ∷ js) (k ∷ ks) = SameMember j k × SameMembers js ks
     SameMembers _ _ = ⊥
 
     record SameParts (a b : Parts) : Type 0 where
@@ -92,27 +97,29 @@ module _
     has_any-mapped has no_properties = refl
     has_any-mapped has (property n s ps) = ap (λ b. has n || b) (has_any-mapped has ps)
 
-    member-mapped : (name' name : List ℕ → Judge) → ((n : List ℕ) → SameJudge (name' n) (name n)) → (props patterns : Properties) (rest names : MaybeSchema) (a b : List ℕ × Judge) → a.0 ≡ b.0 → SameJudge a.1 b.1
-        → member_agrees r name' (mapped_properties f props) (mapped_properties f patterns) (mapped_maybe f rest) (mapped_maybe f names) a ≡ member_agrees r name props patterns rest names b
-    member-mapped name' name g props patterns rest names a b e h =
-        ap (λ n. member_agrees r name' (mapped_properties f props) (mapped_properties f patterns) (mapped_maybe f rest) (mapped_maybe f names) (n, a.1)) e
-        ∙ (λ i. (ap (maybe a.1) (property-mapped b.0 props) ∙ maybe-mapped a.1 b.1 h (property_at b.0 props)) i
-        && patterns-mapped (λ q. r.matches q b.0) a.1 b.1 h patterns i
-        && ((ap is_given (property-mapped b.0 props) ∙ is_given-mapped (property_at b.0 props)) i || has_any-mapped (λ q. r.matches q b.0) patterns i || maybe-mapped a.1 b.1 h rest i)
-        && maybe-mapped (name' b.0) (name b.0) (g b.0) names i)
+    member-mapped : (name' name : List ℕ → Judge) → ((n : List ℕ) → SameJudge (name' n) (name n)) → (props patterns : Properties) (rest names : MaybeSchema) (required : List (List ℕ)) (a b : MemberPart) → SameMember a b
+        → member_agrees r name' (mapped_properties f props) (mapped_properties f patterns) (mapped_maybe f rest) (mapped_maybe f names) required a ≡ member_agrees r name props patterns rest names required b
+    member-mapped name' name g props patterns rest names required a b e =
+        let n = b.name in
+        let h = e.says in
+        ap (λ n. member_agrees r name' (mapped_properties f props) (mapped_properties f patterns) (mapped_maybe f rest) (mapped_maybe f names) required (record a { name = n })) e.name
+        ∙ (λ i. ((e.as_absent i && not (list_any (bytes_eq n) required)) || (ap (maybe a.says) (property-mapped n props) ∙ maybe-mapped a.says b.says h (property_at n props)) i)
+        && patterns-mapped (λ q. r.matches q n) a.says b.says h patterns i
+        && ((ap is_given (property-mapped n props) ∙ is_given-mapped (property_at n props)) i || has_any-mapped (λ q. r.matches q n) patterns i || maybe-mapped a.says b.says h rest i)
+        && maybe-mapped (name' n) (name n) (g n) names i)
 
-    members-mapped : (name' name : List ℕ → Judge) → ((n : List ℕ) → SameJudge (name' n) (name n)) → (props patterns : Properties) (rest names : MaybeSchema) (js ks : List (List ℕ × Judge)) → SameMembers js ks
-        → list_all (member_agrees r name' (mapped_properties f props) (mapped_properties f patterns) (mapped_maybe f rest) (mapped_maybe f names)) js ≡ list_all (member_agrees r name props patterns rest names) ks
-    members-mapped name' name g props patterns rest names [] [] h = refl
-    members-mapped name' name g props patterns rest names (a ∷ js) (b ∷ ks) h =
-        λ i. member-mapped name' name g props patterns rest names a b h.0 h.1 i && members-mapped name' name g props patterns rest names js ks h.2 i
-    members-mapped name' name g props patterns rest names [] (b ∷ ks) h = absurd h
-    members-mapped name' name g props patterns rest names (a ∷ js) [] h = absurd h
+    members-mapped : (name' name : List ℕ → Judge) → ((n : List ℕ) → SameJudge (name' n) (name n)) → (props patterns : Properties) (rest names : MaybeSchema) (required : List (List ℕ)) (js ks : List MemberPart) → SameMembers js ks
+        → list_all (member_agrees r name' (mapped_properties f props) (mapped_properties f patterns) (mapped_maybe f rest) (mapped_maybe f names) required) js ≡ list_all (member_agrees r name props patterns rest names required) ks
+    members-mapped name' name g props patterns rest names required [] [] h = refl
+    members-mapped name' name g props patterns rest names required (a ∷ js) (b ∷ ks) h =
+        λ i. member-mapped name' name g props patterns rest names required a b h.0 i && members-mapped name' name g props patterns rest names required js ks h.1 i
+    members-mapped name' name g props patterns rest names required [] (b ∷ ks) h = absurd h
+    members-mapped name' name g props patterns rest names required (a ∷ js) [] h = absurd h
 
     named-mapped : (ms : Members) (a b : Parts) → SameParts a b → (ns : Named) → named_agree r ms a (mapped_named f ns) ≡ named_agree r ms b ns
     named-mapped ms a b h no_named = refl
     named-mapped ms a b h (named props patterns rest names rules) =
-        λ i. members-mapped a.name b.name h.name props patterns rest names a.members b.members h.members i && member_rules_agree ms rules
+        λ i. members-mapped a.name b.name h.name props patterns rest names rules.required a.members b.members h.members i && member_rules_agree ms rules
 
     parts-mapped : (v : Value) (a b : Parts) → SameParts a b → (ls : Lists) (ns : Named) → parts_agree r v a (mapped_lists f ls) (mapped_named f ns) ≡ parts_agree r v b ls ns
     parts-mapped null a b h ls ns = refl
@@ -236,9 +243,9 @@ module _
         items_judged end_items = tt
         items_judged (item v vs) = (admits-mapped v, items_judged vs)
 
-        members_judged : (ms : Members) → SameMembers (member_judges r (mapped_document f d) ms) (member_judges r d ms)
+        members_judged : (ms : Members) → SameMembers (member_parts r (mapped_document f d) ms) (member_parts r d ms)
         members_judged no_members = tt
-        members_judged (member k v ms) = (refl, admits-mapped v, members_judged ms)
+        members_judged (member k v ms) = (record { name = refl; as_absent = refl; says = admits-mapped v }, members_judged ms)
 
 -- ---- annotations and walks are no constraints
 

@@ -8,6 +8,7 @@ use Rattle.std.specs.Cmp.Lexicographic.{slice_cmp}
 use Rattle.std.proofs.lemmas.Cmp.{nat_list_cmp_total}
 use Rattle.json_value.specs.Value as value
 use Rattle.json_value.specs.Value.{Value, Members, null, number, fraction, text, list}
+use Rattle.schema_defs.specs.declared.Setting.{Setting}
 use Rattle.schema_defs.specs.Schema.{Schema, boolean, Properties, no_properties, property, Definition, Document}
 use Rattle.schema_defs.specs.Read.{◌⊛◌, keyword, Lookup, lookup_of, member_readings, with_definition, with_definitions, joined, flat, definitions_of, schema_of, make_document, document_of}
 use Rattle.schema_defs.specs.Laws.{NamesRise, IsBelowNext, DefinitionsRise}
@@ -56,19 +57,19 @@ definitions_risen : (f : Lookup) → Risen (definitions_of f)
 unfolding definitions_of
 definitions_risen f = flat_risen (keyword (codes "definitions") (λ r. r.as_named) f) (keyword (codes "$defs") (λ r. r.as_named) f)
 
-document_risen : (s : Option Schema) (o : Option (List Definition)) → Risen o → (d : Document) → Some make_document ⊛ s ⊛ o ≡ Some d → NamesRise (names d.definitions)
-document_risen None None h d k = absurd (none_is_not d k)
-document_risen (Some s) None h d k = absurd (none_is_not d k)
-document_risen None (Some ds) h d k = absurd (none_is_not d k)
-document_risen (Some s) (Some ds) h d k = subst (λ d. NamesRise (names d.definitions)) (some_same (make_document s ds) d k) (h ds refl)
+document_risen : (s : Option Schema) (o : Option (List Definition)) → Risen o → (setting : Setting) (d : Document) → Some (make_document setting) ⊛ s ⊛ o ≡ Some d → NamesRise (names d.definitions)
+document_risen None None h w d k = absurd (none_is_not d k)
+document_risen (Some s) None h w d k = absurd (none_is_not d k)
+document_risen None (Some ds) h w d k = absurd (none_is_not d k)
+document_risen (Some s) (Some ds) h w d k = subst (λ d. NamesRise (names d.definitions)) (some_same (make_document w s ds) d k) (h ds refl)
 
 pub definitions_rise : DefinitionsRise
 unfolding document_of
-definitions_rise (value.boolean b) d k = subst (λ d. NamesRise (names d.definitions)) (some_same (make_document (boolean b) []) d k) tt
-definitions_rise (value.object ms) d k =
-    document_risen (schema_of (lookup_of (member_readings ms))) (definitions_of (lookup_of (member_readings ms))) (definitions_risen (lookup_of (member_readings ms))) d k
-definitions_rise null d k = absurd (none_is_not d k)
-definitions_rise (number z) d k = absurd (none_is_not d k)
-definitions_rise fraction d k = absurd (none_is_not d k)
-definitions_rise (text s) d k = absurd (none_is_not d k)
-definitions_rise (list xs) d k = absurd (none_is_not d k)
+definitions_rise w (value.boolean b) d k = subst (λ d. NamesRise (names d.definitions)) (some_same (make_document w (boolean b) []) d k) tt
+definitions_rise w (value.object ms) d k =
+    document_risen (schema_of (lookup_of (member_readings ms))) (definitions_of (lookup_of (member_readings ms))) (definitions_risen (lookup_of (member_readings ms))) w d k
+definitions_rise w null d k = absurd (none_is_not d k)
+definitions_rise w (number z) d k = absurd (none_is_not d k)
+definitions_rise w fraction d k = absurd (none_is_not d k)
+definitions_rise w (text s) d k = absurd (none_is_not d k)
+definitions_rise w (list xs) d k = absurd (none_is_not d k)

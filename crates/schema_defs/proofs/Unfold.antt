@@ -7,7 +7,7 @@ use Rattle.json_value.specs.Value.{Value, Items, Members, item, no_items, member
 use Rattle.schema_defs.specs.Texts.{Relations}
 use Rattle.schema_defs.specs.Schema.{Schema, boolean, object, Schemas, no_more, schema, schema_list, Document}
 use Rattle.schema_defs.specs.Layer.{judge_all, judge_any, judge_count}
-use Rattle.schema_defs.specs.Admits.{admits, admits_with, admits-level, item_judges, member_judges, parts_of, allowed}
+use Rattle.schema_defs.specs.Admits.{counts_as_absent, admits, admits_with, admits-level, item_judges, member_parts, parts_of, allowed}
 use Rattle.schema_defs.specs.Laws.{Unfolds, AdmissionUnfolds, AnnotationsSayNothing, reference_admits}
 
 module _ (r : Relations) (d : Document) where
@@ -43,9 +43,9 @@ module _ (r : Relations) (d : Document) where
   some-map no_items s = refl
   some-map (item v vs) s = ap (λ b. admits r d v s || b) (some-map vs s)
 
-  member_judges-map : (ms : Members) → member_judges r d ms ≡ map (λ e. (e.0, admits r d e.1)) (entries ms)
-  member_judges-map no_members = refl
-  member_judges-map (member k v ms) = ap (λ js. (k, admits r d v) ∷ js) (member_judges-map ms)
+  member_parts-map : (ms : Members) → member_parts r d ms ≡ map (λ e. record { name = e.0; as_absent = counts_as_absent d.setting e.1; says = admits r d e.1 }) (entries ms)
+  member_parts-map no_members = refl
+  member_parts-map (member k v ms) = ap (λ js. record { name = k; as_absent = counts_as_absent d.setting v; says = admits r d v } ∷ js) (member_parts-map ms)
 
   pub unfolds : Unfolds r d
   unfolds = record {
@@ -59,7 +59,7 @@ module _ (r : Relations) (d : Document) where
     items = item_judges-map;
     each_item = λ vs s rest. each-map vs s;
     contains = some-map;
-    members = member_judges-map;
+    members = member_parts-map;
     names = λ ms n s. refl;
   }
 

@@ -3,10 +3,13 @@ use Rattle.std.proofs.Common.{◌≡◌, ℕ, List, [], ◌∷◌, ◌++◌, Boo
 use Rattle.std.specs.Prelude.{Option, Some, None, option_map, if◌then◌else◌}
 use Rattle.std.proofs.lemmas.Slice.Eq.{bytes_eq-Decides}
 use Rattle.json_value.specs.Value as value
-use Rattle.json_value.specs.Value.{Value, members, member, no_members, member_at}
+use Rattle.json_value.specs.Value.{Value, null, number, fraction, text, list, members, member, no_members, member_at}
+use Rattle.schema_defs.specs.declared.Setting.{Setting}
+use Rattle.schema_defs.specs.declared.Setting.TheVariants.{Strict}
 use Rattle.schema_defs.specs.Formats.{is_ipv4, is_ipv6}
-use Rattle.schema_defs.specs.Read.{◌⊛◌, Reading, Lookup, lookup_of, reading_at, reading, member_readings, is_known, schema_of, plain_of, numbers_of, texts_of, same_of, lists_of, named_of, definitions_of, document_of, make_document}
-use Rattle.schema_defs.specs.Laws.{KeywordsAreMembers, UnknownMembersSayNothing, FormatsAreLawful}
+use Rattle.schema_defs.specs.Schema.{Schema, Definition, Document}
+use Rattle.schema_defs.specs.Read.{◌⊛◌, Reading, Lookup, lookup_of, reading_at, reading, member_readings, is_known, schema_of, plain_of, numbers_of, texts_of, same_of, lists_of, named_of, definitions_of, document_of, make_document, under}
+use Rattle.schema_defs.specs.Laws.{KeywordsAreMembers, UnknownMembersSayNothing, FormatsAreLawful, SettingsAreKept}
 
 abbrev pub restricted : Lookup → Lookup
 restricted f n = if is_known n then f n else None
@@ -52,12 +55,28 @@ module _ (es fs : List (List ℕ × Value)) (k : List ℕ) (v : Value) (h : is_k
   known_same : (n : List ℕ) → is_known n ≡ true → long n ≡ short n
   known_same n hn = skipped n k v es fs (differs n k hn h (bytes_eq n k) refl)
 
-  document_same : document_of (value.object (members (es ++ (k, v) ∷ fs))) ≡ document_of (value.object (members (es ++ fs)))
+  document_same : (setting : Setting) → document_of setting (value.object (members (es ++ (k, v) ∷ fs))) ≡ document_of setting (value.object (members (es ++ fs)))
   unfolding document_of
-  document_same = λ i. Some make_document ⊛ schema_of-same long short known_same i ⊛ definitions_of-same long short known_same i
+  document_same setting = λ i. Some (make_document setting) ⊛ schema_of-same long short known_same i ⊛ definitions_of-same long short known_same i
 
 pub unknown_members_say_nothing : UnknownMembersSayNothing
-unknown_members_say_nothing = (document_same, λ es fs k v h. schema_of-same (long es fs k v h) (short es fs k v h) (known_same es fs k v h))
+unknown_members_say_nothing = (λ setting es fs k v h. document_same es fs k v h setting, λ es fs k v h. schema_of-same (long es fs k v h) (short es fs k v h) (known_same es fs k v h))
+
+kept : (setting : Setting) (s : Option Schema) (ds : Option (List Definition)) → Some (make_document setting) ⊛ s ⊛ ds ≡ option_map (under setting) (Some (make_document Strict) ⊛ s ⊛ ds)
+kept setting None None = refl
+kept setting (Some s) None = refl
+kept setting None (Some ds) = refl
+kept setting (Some s) (Some ds) = refl
+
+pub settings_are_kept : SettingsAreKept
+unfolding document_of
+settings_are_kept setting (value.boolean b) = refl
+settings_are_kept setting (value.object ms) = kept setting (schema_of (lookup_of (member_readings ms))) (definitions_of (lookup_of (member_readings ms)))
+settings_are_kept setting null = refl
+settings_are_kept setting (number z) = refl
+settings_are_kept setting fraction = refl
+settings_are_kept setting (text s) = refl
+settings_are_kept setting (list xs) = refl
 
 chosen : (b : Bool) (x : Value) (y : Option Reading) (z : Option Value) → y ≡ option_map reading z → (if b then Some (reading x) else y) ≡ option_map reading (if b then Some x else z)
 chosen true x y z h = refl

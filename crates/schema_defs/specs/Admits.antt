@@ -1,12 +1,14 @@
 -- Which values a schema of a document admits.
-use Rattle.std.specs.Prelude.{ℕ, zero, suc, List, [], ◌∷◌, length, drop, Bool, false, Option, Some, None, option_map, bytes_eq, nat_eq, codes, if◌then◌else◌, ◌≡◌, refl}
+use Rattle.std.specs.Prelude.{ℕ, zero, suc, List, [], ◌∷◌, length, drop, Bool, true, false, Option, Some, None, option_map, bytes_eq, nat_eq, codes, if◌then◌else◌, ◌≡◌, refl}
 use Rattle.std.specs.List.{starts_with}
 use Rattle.json_value.specs.Value as value
 use Rattle.json_value.specs.Value.{Value, Items, Members, null, number, fraction, text, list, item, no_items, member, no_members}
+use Rattle.schema_defs.specs.declared.Setting.{Setting}
+use Rattle.schema_defs.specs.declared.Setting.TheVariants.{Strict, NullAbsent}
 use Rattle.schema_defs.specs.Location.{Step, Location, unescaped}
 use Rattle.schema_defs.specs.Texts.{Relations}
 use Rattle.schema_defs.specs.Schema.{Schema, Definition, Document}
-use Rattle.schema_defs.specs.Layer.{Judge, Parts, judge}
+use Rattle.schema_defs.specs.Layer.{Judge, MemberPart, Parts, judge}
 
 -- ---- the targets of references
 
@@ -57,6 +59,12 @@ abbrev pub follow : Judge → Option Schema → Bool
 follow j None = false
 follow j (Some s) = j s
 
+-- whether a member that has the value may stand for one that is absent: where the setting says so, null
+abbrev pub counts_as_absent : Setting → Value → Bool
+counts_as_absent Strict v = false
+counts_as_absent NullAbsent null = true
+counts_as_absent NullAbsent _ = false
+
 module _ (r : Relations) (d : Document) where
   -- a reference, where n are still allowed at this value
   abbrev pub follows : Value → Parts → ℕ → List ℕ → Bool
@@ -83,19 +91,19 @@ module _ (r : Relations) (d : Document) where
     admits fraction = judge_within fraction no_parts (allowed d)
     admits (text s) = judge_within (text s) no_parts (allowed d)
     admits (list xs) = judge_within (list xs) (record { items = item_judges xs; members = []; name = no_name }) (allowed d)
-    admits (value.object ms) = judge_within (value.object ms) (record { items = []; members = member_judges ms; name = name_admits }) (allowed d)
+    admits (value.object ms) = judge_within (value.object ms) (record { items = []; members = member_parts ms; name = name_admits }) (allowed d)
 
     pub item_judges : Items → List Judge
     item_judges no_items = []
     item_judges (item v vs) = admits v ∷ item_judges vs
 
-    pub member_judges : Members → List (List ℕ × Judge)
-    member_judges no_members = []
-    member_judges (member k v ms) = (k, admits v) ∷ member_judges ms
+    pub member_parts : Members → List MemberPart
+    member_parts no_members = []
+    member_parts (member k v ms) = record { name = k; as_absent = counts_as_absent d.setting v; says = admits v } ∷ member_parts ms
 
   abbrev pub parts_of : Value → Parts
   parts_of (list xs) = record { items = item_judges xs; members = []; name = no_name }
-  parts_of (value.object ms) = record { items = []; members = member_judges ms; name = name_admits }
+  parts_of (value.object ms) = record { items = []; members = member_parts ms; name = name_admits }
   parts_of _ = no_parts
 
   -- with n references still allowed at this value

@@ -3,6 +3,8 @@ use Rattle.std.specs.Prelude.{◌≡◌, ℕ, pos, neg_ℤ, nat_eq, List, [], �
 use Prim.Native.String.{String}
 use Rattle.std.specs.List.{starts_with}
 use Rattle.json_value.specs.Value.{Value, boolean, number, text, list, object, items, members}
+use Rattle.schema_defs.specs.declared.Setting.{Setting}
+use Rattle.schema_defs.specs.declared.Setting.TheVariants.{Strict}
 use Rattle.schema_defs.specs.Texts.{Relations}
 use Rattle.schema_defs.specs.Formats.{has_format}
 use Rattle.schema_defs.specs.Admits.{admits}
@@ -46,9 +48,12 @@ ref q = obj ("$ref" ≔ str q ∷ [])
 abbrev pub sample : Relations
 sample = record { is_pattern = λ p. true; matches = λ p s. starts_with nat_eq s p; has_format = has_format }
 
--- what the schema document says of the value
+-- what the schema document says of the value under a setting
+abbrev pub answer_under : Setting → Value → Value → Option Bool
+answer_under setting schema v = option_map (λ d. admits sample d v d.root) (document_of setting schema)
+
 abbrev pub answer : Value → Value → Option Bool
-answer schema v = option_map (λ d. admits sample d v d.root) (document_of schema)
+answer = answer_under Strict
 
 abbrev pub Takes : Value → Value → Type 0
 Takes schema v = answer schema v ≡ Some true
@@ -57,7 +62,7 @@ abbrev pub Refuses : Value → Value → Type 0
 Refuses schema v = answer schema v ≡ Some false
 
 abbrev pub IsRead : Value → Type 0
-IsRead schema = is_some (document_of schema) ≡ true
+IsRead schema = is_some (document_of Strict schema) ≡ true
 
 abbrev pub IsUnread : Value → Type 0
-IsUnread schema = document_of schema ≡ None
+IsUnread schema = document_of Strict schema ≡ None

@@ -1,4 +1,4 @@
--- How many schemas a document has, and how many constraints a schema has.
+-- How many schemas a document has, and how many constraints a schema has at least.
 use Rattle.std.specs.Prelude.{ℕ, ◌+◌, max, nat_le, List, [], ◌∷◌, Bool, true, false, Option, Some, None, is_some, IsTrue, if◌then◌else◌}
 use Rattle.schema_defs.specs.Schema.{Numbers, Texts, ListRules, MemberRules, Plain, Schema, boolean, object, Same, no_same, same_value, Lists, no_lists, lists, Named, no_named, named, MaybeSchema, no_schema, the_schema, MaybeSchemas, no_list, the_list, Schemas, no_more, schema, Places, no_items, each_item, by_place, Properties, no_properties, property, Definition, Document}
 
@@ -114,9 +114,10 @@ named_count no_named = 0
 named_count (named props patterns rest names rules) =
     max 1 (one_if (has_properties props) + one_if (has_properties patterns) + one_if (is_schema rest) + one_if (is_schema names) + member_rules_count rules)
 
-abbrev pub constraint_count : Schema → ℕ
-constraint_count (boolean b) = 0
-constraint_count (object p ss ls ns) = plain_count p + same_count ss + lists_count ls + named_count ns
+-- the fewest constraints with which the schema can have been written: empty names and lists don't show whether their keyword stood
+abbrev pub least_constraints : Schema → ℕ
+least_constraints (boolean b) = 0
+least_constraints (object p ss ls ns) = plain_count p + same_count ss + lists_count ls + named_count ns
 
 abbrev pub HasConstraint : Schema → Type 0
-HasConstraint s = IsTrue (nat_le 1 (constraint_count s))
+HasConstraint s = IsTrue (nat_le 1 (least_constraints s))

@@ -2,12 +2,13 @@
 use Rattle.std.specs.Prelude.{◌≡◌, pos, [], ◌∷◌, true, false, Option, Some, None, option_map, option_and_then, codes}
 use Rattle.json_value.specs.Value.{Value, null, fraction}
 use Rattle.schema_defs.specs.declared.InstanceType.TheVariants.{Null, Text}
+use Rattle.schema_defs.specs.declared.Setting.TheVariants.{Strict}
 use Rattle.schema_defs.specs.Location.{Location, location_text, place, unescaped}
 use Rattle.schema_defs.specs.Schema.{Schema, Plain, one_type, many_types, boolean, object, no_same, same_value, no_lists, no_named, named, no_schema, the_schema, no_list, no_properties, property, Document}
 use Rattle.schema_defs.specs.Admits.{target_location}
 use Rattle.schema_defs.specs.Read.{document_of}
 use Rattle.schema_defs.specs.Children.{schema_at}
-use Rattle.schema_defs.specs.Counts.{nodes, constraint_count}
+use Rattle.schema_defs.specs.Counts.{nodes, least_constraints}
 use Rattle.schema_defs.specs.Build.{◌≔◌, str, num, minus, yes, no, obj, arr, typed, ref, IsRead, IsUnread}
 
 -- a schema whose keywords are all absent
@@ -18,26 +19,27 @@ abbrev pub only : Plain → Schema
 only p = object p no_same no_lists no_named
 
 abbrev pub alone : Schema → Document
-alone s = record { root = s; definitions = [] }
+alone s = record { setting = Strict; root = s; definitions = [] }
 
 pub record ReadingExamples : Type 0 where
-  pub booleans : document_of no ≡ Some (alone (boolean false))
-  pub empty : document_of (obj []) ≡ Some (alone (only blank))
-  pub unknown_members : document_of (obj ("$id" ≔ num 3 ∷ "foo" ≔ null ∷ [])) ≡ Some (alone (only blank))
-  pub annotations : document_of (obj ("default" ≔ num 3 ∷ "title" ≔ str "a" ∷ [])) ≡ Some (alone (only (record blank { default = Some (num 3); title = Some (codes "a") })))
-  pub one_name : document_of (typed "string") ≡ Some (alone (only (record blank { types = Some (one_type Text) })))
-  pub names : document_of (obj ("type" ≔ arr (str "string" ∷ str "null" ∷ []) ∷ [])) ≡ Some (alone (only (record blank { types = Some (many_types (Text ∷ Null ∷ [])) })))
-  pub bounds : document_of (obj ("maximum" ≔ num 3 ∷ "multipleOf" ≔ num 2 ∷ []))
+  pub booleans : document_of Strict no ≡ Some (alone (boolean false))
+  pub empty : document_of Strict (obj []) ≡ Some (alone (only blank))
+  pub unknown_members : document_of Strict (obj ("$id" ≔ num 3 ∷ "foo" ≔ null ∷ [])) ≡ Some (alone (only blank))
+  pub annotations : document_of Strict (obj ("default" ≔ num 3 ∷ "title" ≔ str "a" ∷ [])) ≡ Some (alone (only (record blank { default = Some (num 3); title = Some (codes "a") })))
+  pub one_name : document_of Strict (typed "string") ≡ Some (alone (only (record blank { types = Some (one_type Text) })))
+  pub names : document_of Strict (obj ("type" ≔ arr (str "string" ∷ str "null" ∷ []) ∷ [])) ≡ Some (alone (only (record blank { types = Some (many_types (Text ∷ Null ∷ [])) })))
+  pub bounds : document_of Strict (obj ("maximum" ≔ num 3 ∷ "multipleOf" ≔ num 2 ∷ []))
       ≡ Some (alone (only (record blank { numbers = Some (record { multiple_of = Some 2; maximum = Some (pos 3); exclusive_maximum = None; minimum = None; exclusive_minimum = None }) })))
-  pub pattern : document_of (obj ("pattern" ≔ str "a" ∷ [])) ≡ Some (alone (only (record blank { texts = Some (record { max_length = None; min_length = None; patterns = codes "a" ∷ [] }) })))
-  pub not : document_of (obj ("not" ≔ yes ∷ [])) ≡ Some (alone (object blank (same_value no_list no_list no_list (the_schema (boolean true)) false) no_lists no_named))
-  pub conditional : document_of (obj ("if" ≔ num 3 ∷ [])) ≡ Some (alone (object blank (same_value no_list no_list no_list no_schema true) no_lists no_named))
-  pub required_names_rise : document_of (obj ("required" ≔ arr (str "b" ∷ str "a" ∷ str "b" ∷ []) ∷ []))
+  pub pattern : document_of Strict (obj ("pattern" ≔ str "a" ∷ [])) ≡ Some (alone (only (record blank { texts = Some (record { max_length = None; min_length = None; patterns = codes "a" ∷ [] }) })))
+  pub not : document_of Strict (obj ("not" ≔ yes ∷ [])) ≡ Some (alone (object blank (same_value no_list no_list no_list (the_schema (boolean true)) false) no_lists no_named))
+  pub conditional : document_of Strict (obj ("if" ≔ num 3 ∷ [])) ≡ Some (alone (object blank (same_value no_list no_list no_list no_schema true) no_lists no_named))
+  pub required_names_rise : document_of Strict (obj ("required" ≔ arr (str "b" ∷ str "a" ∷ str "b" ∷ []) ∷ []))
       ≡ Some (alone (object blank no_same no_lists (named no_properties no_properties no_schema no_schema (record { max_properties = None; min_properties = None; required = codes "a" ∷ codes "b" ∷ [] }))))
-  pub properties : document_of (obj ("properties" ≔ obj ("type" ≔ no ∷ []) ∷ []))
+  pub properties : document_of Strict (obj ("properties" ≔ obj ("type" ≔ no ∷ []) ∷ []))
       ≡ Some (alone (object blank no_same no_lists (named (property (codes "type") (boolean false) no_properties) no_properties no_schema no_schema (record { max_properties = None; min_properties = None; required = [] }))))
-  pub definitions : document_of (obj ("$defs" ≔ obj ("a" ≔ yes ∷ "c" ≔ yes ∷ []) ∷ "definitions" ≔ obj ("b" ≔ no ∷ []) ∷ []))
+  pub definitions : document_of Strict (obj ("$defs" ≔ obj ("a" ≔ yes ∷ "c" ≔ yes ∷ []) ∷ "definitions" ≔ obj ("b" ≔ no ∷ []) ∷ []))
       ≡ Some (record {
+        setting = Strict;
         root = only blank;
         definitions = record { name = codes "a"; under_defs = true; body = boolean true } ∷ record { name = codes "b"; under_defs = false; body = boolean false } ∷ record { name = codes "c"; under_defs = true; body = boolean true } ∷ [];
       })
@@ -93,7 +95,7 @@ located = obj
     ∷ [])
 
 abbrev pub at : Location → Option Schema
-at l = option_and_then (λ d. schema_at d l) (document_of located)
+at l = option_and_then (λ d. schema_at d l) (document_of Strict located)
 
 pub record LocationExamples : Type 0 where
   pub root_text : location_text [] ≡ codes "#"
@@ -106,10 +108,10 @@ pub record LocationExamples : Type 0 where
   pub place_past_the_list : at (codes "anyOf" ∷ place 2 ∷ []) ≡ None
   pub list_is_no_schema : at (codes "anyOf" ∷ []) ≡ None
   pub property : at (codes "properties" ∷ codes "definitions" ∷ codes "items" ∷ []) ≡ Some (boolean false)
-  pub target_of_a_reference : option_and_then (λ d. target_location d (codes "#/definitions/a~1b")) (document_of located) ≡ Some (codes "$defs" ∷ codes "a/b" ∷ [])
-  pub target_of_the_root : option_and_then (λ d. target_location d (codes "#")) (document_of located) ≡ Some []
-  pub no_target : option_and_then (λ d. target_location d (codes "#/definitions/d")) (document_of located) ≡ None
-  pub nodes : option_map nodes (document_of located) ≡ Some 8
-  pub constraints : option_map constraint_count (at []) ≡ Some 3
-  pub annotations_are_none : option_map (λ d. constraint_count d.root) (document_of (obj ("default" ≔ num 3 ∷ "title" ≔ str "a" ∷ []))) ≡ Some 0
-  pub empty_names_count : option_map (λ d. constraint_count d.root) (document_of (obj ("$ref" ≔ str "#" ∷ "properties" ≔ obj [] ∷ []))) ≡ Some 2
+  pub target_of_a_reference : option_and_then (λ d. target_location d (codes "#/definitions/a~1b")) (document_of Strict located) ≡ Some (codes "$defs" ∷ codes "a/b" ∷ [])
+  pub target_of_the_root : option_and_then (λ d. target_location d (codes "#")) (document_of Strict located) ≡ Some []
+  pub no_target : option_and_then (λ d. target_location d (codes "#/definitions/d")) (document_of Strict located) ≡ None
+  pub nodes : option_map nodes (document_of Strict located) ≡ Some 8
+  pub constraints : option_map least_constraints (at []) ≡ Some 3
+  pub annotations_are_none : option_map (λ d. least_constraints d.root) (document_of Strict (obj ("default" ≔ num 3 ∷ "title" ≔ str "a" ∷ []))) ≡ Some 0
+  pub empty_names_count : option_map (λ d. least_constraints d.root) (document_of Strict (obj ("$ref" ≔ str "#" ∷ "properties" ≔ obj [] ∷ []))) ≡ Some 2

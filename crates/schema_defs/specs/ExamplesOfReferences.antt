@@ -1,6 +1,7 @@
 -- Worked examples: references and their targets.
 use Rattle.std.specs.Prelude.{◌≡◌, Bool, true, false, Option, Some, option_map, List, ℕ, [], ◌∷◌}
 use Rattle.json_value.specs.Value.{Value, null}
+use Rattle.schema_defs.specs.declared.Setting.TheVariants.{Strict}
 use Rattle.schema_defs.specs.Read.{document_of}
 use Rattle.schema_defs.specs.References.{is_guarded}
 use Rattle.schema_defs.specs.Build.{◌≔◌, str, num, yes, no, obj, arr, typed, ref, Takes, Refuses}
@@ -61,7 +62,7 @@ pub record ReferenceExamples : Type 0 where
 
 -- whether the document is guarded
 abbrev pub guards : Value → Option Bool
-guards v = option_map is_guarded (document_of v)
+guards v = option_map is_guarded (document_of Strict v)
 
 pub record GuardedExamples : Type 0 where
   pub no_references : guards (typed "null") ≡ Some true

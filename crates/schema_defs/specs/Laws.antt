@@ -1,18 +1,20 @@
 -- What holds of admission and of reading, whatever the document.
-use Rattle.std.specs.Prelude.{◌≡◌, ℕ, ◌<◌, ◌≤◌, ◌^◌, ◌==◌, ◌&&◌, not, map, List, [], ◌∷◌, ◌++◌, length, Bool, false, Option, Some, option_map, decimal, count_by, Contains, Decides, ⊤}
+use Rattle.std.specs.Prelude.{◌≡◌, ℕ, ◌<◌, ◌≤◌, ◌^◌, ◌==◌, ◌&&◌, not, map, List, [], ◌∷◌, ◌++◌, length, Bool, false, Option, Some, option_map, decimal, count_by, Contains, Decides, ⊤, ◌↔◌}
 use Rattle.std.specs.declared.cmp.Ordering.TheVariants.{Less}
 use Rattle.std.specs.Ordering.{nat_cmp}
 use Rattle.std.specs.Cmp.Lexicographic.{slice_cmp}
 use Rattle.std.specs.List.{list_any, list_all}
 use Rattle.json_value.specs.Value as value
 use Rattle.json_value.specs.Value.{Value, Items, Members, text, list, values, entries, members, member_at}
+use Rattle.schema_defs.specs.declared.Setting.{Setting}
+use Rattle.schema_defs.specs.declared.Setting.TheVariants.{Strict}
 use Rattle.schema_defs.specs.Location.{Location, place}
 use Rattle.schema_defs.specs.Texts.{Relations, IsLawful}
 use Rattle.schema_defs.specs.Formats.{has_format}
 use Rattle.schema_defs.specs.Schema.{Plain, Schema, boolean, object, Same, Lists, Named, MaybeSchema, the_schema, the_list, Schemas, each_item, schema_list, Document}
 use Rattle.schema_defs.specs.Layer.{plain_agrees, if_given, parts_agree, items_agree, contains_agrees, judge_same, judge_all_of, judge_any_of, judge_one_of, judge_not}
-use Rattle.schema_defs.specs.Admits.{admits, admits_with, parts_of, follow, follows, target, allowed}
-use Rattle.schema_defs.specs.Read.{document_of, reading, lookup_of, member_readings, is_known}
+use Rattle.schema_defs.specs.Admits.{counts_as_absent, admits, admits_with, parts_of, follow, follows, target, allowed}
+use Rattle.schema_defs.specs.Read.{document_of, under, reading, lookup_of, member_readings, is_known}
 use Rattle.schema_defs.specs.Children.{Child, same_children, schema_at}
 use Rattle.schema_defs.specs.Mapped.{mapped, mapped_document, bare, unwalked}
 use Rattle.schema_defs.specs.Walks.{IsGuarded, IsLoop}
@@ -37,7 +39,7 @@ module _ (r : Relations) (d : Document) where
     pub items : (vs : Items) → (parts_of r d (list vs)).items ≡ map (admits r d) (values vs)
     pub each_item : (vs : Items) (s : Schema) (rest : MaybeSchema) → items_agree (parts_of r d (list vs)).items (each_item s) rest ≡ list_all (λ v. admits r d v s) (values vs)
     pub contains : (vs : Items) (s : Schema) → contains_agrees (parts_of r d (list vs)).items (the_schema s) ≡ list_any (λ v. admits r d v s) (values vs)
-    pub members : (ms : Members) → (parts_of r d (value.object ms)).members ≡ map (λ e. (e.0, admits r d e.1)) (entries ms)
+    pub members : (ms : Members) → (parts_of r d (value.object ms)).members ≡ map (λ e. record { name = e.0; as_absent = counts_as_absent d.setting e.1; says = admits r d e.1 }) (entries ms)
     pub names : (ms : Members) (n : List ℕ) (s : Schema) → (parts_of r d (value.object ms)).name n s ≡ admits r d (text n) s
 
 -- admission is what its keywords say
@@ -63,10 +65,14 @@ KeywordsAreMembers = (n : List ℕ) (ms : Members) → lookup_of (member_reading
 -- a member that is no known keyword changes nothing, in a document and in the schemas inside it
 abbrev pub UnknownMembersSayNothing : Type 0
 UnknownMembersSayNothing =
-    ((es fs : List (List ℕ × Value)) (k : List ℕ) (v : Value) → is_known k ≡ false
-    → document_of (value.object (members (es ++ (k, v) ∷ fs))) ≡ document_of (value.object (members (es ++ fs))))
+    ((setting : Setting) (es fs : List (List ℕ × Value)) (k : List ℕ) (v : Value) → is_known k ≡ false
+    → document_of setting (value.object (members (es ++ (k, v) ∷ fs))) ≡ document_of setting (value.object (members (es ++ fs))))
     × ((es fs : List (List ℕ × Value)) (k : List ℕ) (v : Value) → is_known k ≡ false
     → (reading (value.object (members (es ++ (k, v) ∷ fs)))).as_schema ≡ (reading (value.object (members (es ++ fs)))).as_schema)
+
+-- a setting changes nothing in what is read but the setting itself
+abbrev pub SettingsAreKept : Type 0
+SettingsAreKept = (setting : Setting) (v : Value) → document_of setting v ≡ option_map (under setting) (document_of Strict v)
 
 -- the formats as tests make ipv4 texts and ipv6 texts ip texts, whatever the patterns
 abbrev pub FormatsAreLawful : Type 0
@@ -90,6 +96,14 @@ SpareReferencesSayNothing =
 abbrev pub GuardedIsDecided : Type 0
 GuardedIsDecided = (d : Document) → Decides (is_guarded d) (IsGuarded d)
 
+-- whether a document is guarded, and which walks return, doesn't depend on its setting
+pub record AreWalkedAlike (d e : Document) : Type 0 where
+  pub guarded : IsGuarded d ↔ IsGuarded e
+  pub loops : (walk : List Location) → IsLoop d walk ↔ IsLoop e walk
+
+abbrev pub WalksKnowNoSetting : Type 0
+WalksKnowNoSetting = (setting : Setting) (d : Document) → AreWalkedAlike (under setting d) d
+
 -- a walk that returns to its first location shows that a document is not guarded
 abbrev pub LoopsAreUnguarded : Type 0
 LoopsAreUnguarded = (d : Document) (walk : List Location) → IsLoop d walk → ¬ (IsGuarded d)
@@ -105,4 +119,4 @@ NamesRise (n ∷ ns) = IsBelowNext n ns × NamesRise ns
 
 -- the definitions of a document that was read stand in the order of their names, each name once
 abbrev pub DefinitionsRise : Type 0
-DefinitionsRise = (v : Value) (d : Document) → document_of v ≡ Some d → NamesRise (map (λ e. e.name) d.definitions)
+DefinitionsRise = (setting : Setting) (v : Value) (d : Document) → document_of setting v ≡ Some d → NamesRise (map (λ e. e.name) d.definitions)

@@ -15,10 +15,16 @@ use Rattle.schema_defs.specs.Schema.{Types, one_type, many_types, Numbers, Texts
 abbrev pub Judge : Type 0
 Judge = Schema → Bool
 
+-- a member of an object: its name, whether its value may stand for its absence, and what its value says of any schema
+pub record MemberPart : Type 0 where
+  pub name : List ℕ
+  pub as_absent : Bool
+  pub says : Judge
+
 -- what the parts of a value say of any schema; a name is judged as a text
 pub record Parts : Type 0 where
   pub items : List Judge
-  pub members : List (List ℕ × Judge)
+  pub members : List MemberPart
   pub name : List ℕ → Judge
 
 -- a keyword that does not stand agrees
@@ -149,13 +155,17 @@ abbrev pub has_any : (List ℕ → Bool) → Properties → Bool
 has_any has no_properties = false
 has_any has (property k s ps) = has k || has_any has ps
 
+-- `properties` passes over a member that may stand for its absence and that `required` doesn't list
+abbrev pub is_passed_over : List (List ℕ) → MemberPart → Bool
+is_passed_over required m = m.as_absent && not (list_any (bytes_eq m.name) required)
+
 -- `rest` binds a member that neither `properties` nor a pattern names; `names` binds the name as a text
-abbrev pub member_agrees : Relations → (List ℕ → Judge) → Properties → Properties → MaybeSchema → MaybeSchema → (List ℕ × Judge) → Bool
-member_agrees r name props patterns rest names m =
-    maybe m.1 (property_at m.0 props)
-    && patterns_agree (λ q. r.matches q m.0) m.1 patterns
-    && (is_given (property_at m.0 props) || has_any (λ q. r.matches q m.0) patterns || maybe m.1 rest)
-    && maybe (name m.0) names
+abbrev pub member_agrees : Relations → (List ℕ → Judge) → Properties → Properties → MaybeSchema → MaybeSchema → List (List ℕ) → MemberPart → Bool
+member_agrees r name props patterns rest names required m =
+    (is_passed_over required m || maybe m.says (property_at m.name props))
+    && patterns_agree (λ q. r.matches q m.name) m.says patterns
+    && (is_given (property_at m.name props) || has_any (λ q. r.matches q m.name) patterns || maybe m.says rest)
+    && maybe (name m.name) names
 
 abbrev pub member_rules_agree : Members → MemberRules → Bool
 member_rules_agree ms c = within c.min_properties c.max_properties (member_count ms) && list_all (λ n. has_name n ms) c.required
@@ -163,7 +173,7 @@ member_rules_agree ms c = within c.min_properties c.max_properties (member_count
 abbrev pub named_agree : Relations → Members → Parts → Named → Bool
 named_agree r ms parts no_named = true
 named_agree r ms parts (named props patterns rest names rules) =
-    list_all (member_agrees r parts.name props patterns rest names) parts.members && member_rules_agree ms rules
+    list_all (member_agrees r parts.name props patterns rest names rules.required) parts.members && member_rules_agree ms rules
 
 -- a keyword of one kind says nothing of another
 abbrev pub parts_agree : Relations → Value → Parts → Lists → Named → Bool

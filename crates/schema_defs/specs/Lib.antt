@@ -13,6 +13,7 @@ pub mod ExamplesOfScalars
 pub mod ExamplesOfOwners
 pub mod ExamplesOfReading
 pub mod ExamplesOfFormats
+pub mod ExamplesOfSettings
 pub mod Children
 pub mod Counts
 pub mod Walks

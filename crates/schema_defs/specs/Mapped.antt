@@ -45,7 +45,7 @@ module _ (f : Plain → Plain) where
   mapped_definition e = record { name = e.name; under_defs = e.under_defs; body = mapped e.body }
 
   abbrev pub mapped_document : Document → Document
-  mapped_document d = record { root = mapped d.root; definitions = map mapped_definition d.definitions }
+  mapped_document d = record { setting = d.setting; root = mapped d.root; definitions = map mapped_definition d.definitions }
 
 -- without the title, the description, the default and the walk
 abbrev pub bare : Plain → Plain

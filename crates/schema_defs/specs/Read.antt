@@ -6,6 +6,8 @@ use Rattle.std.specs.Cmp.Lexicographic.{slice_cmp}
 use Rattle.std.specs.List.{list_any}
 use Rattle.json_value.specs.Value as value
 use Rattle.json_value.specs.Value.{Value, Items, Members, null, number, fraction, text, list, item, no_items as end_items, member, no_members, values, is_whole, all_whole}
+use Rattle.schema_defs.specs.declared.Setting.{Setting}
+use Rattle.schema_defs.specs.declared.Setting.TheVariants.{Strict}
 use Rattle.schema_defs.specs.declared.InstanceType.{InstanceType}
 use Rattle.schema_defs.specs.declared.InstanceType.TheVariants.{Null, Boolean, Object, Array, Number, Text, Integer}
 use Rattle.schema_defs.specs.Schema.{Types, one_type, many_types, Numbers, Texts, Plain, Schema, boolean, object, Same, no_same, same_value, Lists, no_lists, lists, Named, no_named, named, MaybeSchema, no_schema, the_schema, MaybeSchemas, no_list, the_list, Schemas, no_more, schema, Places, no_items, each_item, by_place, Properties, no_properties, property, Definition, Document}
@@ -312,13 +314,18 @@ flat (Some o) = o
 unfoldable pub definitions_of : Lookup → Option (List Definition)
 definitions_of ms = flat (Some joined ⊛ keyword (codes "definitions") (λ r. r.as_named) ms ⊛ keyword (codes "$defs") (λ r. r.as_named) ms)
 
-abbrev pub make_document : Schema → List Definition → Document
-make_document s ds = record { root = s; definitions = ds }
+abbrev pub make_document : Setting → Schema → List Definition → Document
+make_document setting s ds = record { setting = setting; root = s; definitions = ds }
 
-unfoldable pub document_of : Value → Option Document
-document_of (value.boolean b) = Some (make_document (boolean b) [])
-document_of (value.object ms) = Some make_document ⊛ schema_of (lookup_of (member_readings ms)) ⊛ definitions_of (lookup_of (member_readings ms))
-document_of _ = None
+-- the document under another setting
+abbrev pub under : Setting → Document → Document
+under setting d = record d { setting = setting }
+
+-- the document that a value is, under a setting
+unfoldable pub document_of : Setting → Value → Option Document
+document_of setting (value.boolean b) = Some (make_document setting (boolean b) [])
+document_of setting (value.object ms) = Some (make_document setting) ⊛ schema_of (lookup_of (member_readings ms)) ⊛ definitions_of (lookup_of (member_readings ms))
+document_of setting _ = None
 
 -- ---- what is malformed, fractions aside
 
@@ -338,5 +345,6 @@ abbrev mutual
   filled_members no_members = no_members
   filled_members (member k v ms) = member k (filled v) (filled_members ms)
 
+-- whatever the setting, which changes no reading
 abbrev pub IsMalformed : Value → Type 0
-IsMalformed v = document_of (filled v) ≡ None
+IsMalformed v = document_of Strict (filled v) ≡ None

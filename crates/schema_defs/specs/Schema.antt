@@ -3,6 +3,7 @@
 use Rattle.std.specs.Prelude.{ℕ, ℤ, List, [], ◌∷◌, Bool, Option}
 use Rattle.json_value.specs.Value.{Value}
 use Rattle.schema_defs.specs.declared.InstanceType.{InstanceType}
+use Rattle.schema_defs.specs.declared.Setting.{Setting}
 use Rattle.schema_defs.specs.Location.{Location}
 
 -- `type`: a name, or a list of names
@@ -95,8 +96,9 @@ pub record Definition : Type 0 where
   pub under_defs : Bool
   pub body : Schema
 
--- the definitions stand in the order of their names
+-- the definitions stand in the order of their names; the setting says whether null may stand for an absent property
 pub record Document : Type 0 where
+  pub setting : Setting
   pub root : Schema
   pub definitions : List Definition
 

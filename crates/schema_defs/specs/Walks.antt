@@ -4,7 +4,7 @@ use Rattle.schema_defs.specs.Location.{Location}
 use Rattle.schema_defs.specs.Schema.{Schema, boolean, object, Same, no_same, same_value, Document}
 use Rattle.schema_defs.specs.Admits.{target_location}
 use Rattle.schema_defs.specs.Children.{Child, children, same_children, reference_of, schema_at}
-use Rattle.schema_defs.specs.Counts.{constraint_count, is_list, is_schema}
+use Rattle.schema_defs.specs.Counts.{least_constraints, is_list, is_schema}
 
 -- ---- walks
 
@@ -20,7 +20,7 @@ has_any_or_one_of (same_value all any one none conditional) = is_list any || is_
 abbrev pub merges : Schema → Bool
 merges (boolean b) = false
 merges (object p ss ls ns) =
-    has_all_of_or_not ss || ((is_some p.reference || has_any_or_one_of ss) && nat_le 2 (constraint_count (object p ss ls ns)))
+    has_all_of_or_not ss || ((is_some p.reference || has_any_or_one_of ss) && nat_le 2 (least_constraints (object p ss ls ns)))
 
 abbrev pub merges_at : Document → Location → Bool
 merges_at d l = elim (schema_at d l) [ Some s ↦ merges s | None ↦ false ]

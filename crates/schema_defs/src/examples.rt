@@ -5,6 +5,7 @@ ghost use Rattle.schema_defs.specs.ExamplesOfReferences.{ReferenceExamples, Guar
 ghost use Rattle.schema_defs.specs.ExamplesOfScalars.{NumberExamples, TextExamples};
 ghost use Rattle.schema_defs.specs.ExamplesOfOwners.{ListExamples, MemberExamples};
 ghost use Rattle.schema_defs.specs.ExamplesOfReading.{ReadingExamples, MalformedExamples, LocationExamples};
+ghost use Rattle.schema_defs.specs.ExamplesOfSettings.{SettingExamples};
 ghost use Rattle.schema_defs.specs.ExamplesOfFormats.{DateExamples, AddressExamples, UuidExamples};
 
 /// What `type` says, and the boolean schemas.
@@ -60,6 +61,11 @@ pub fn malformed_examples()
 /// Where schemas stand, and where references lead.
 pub fn location_examples()
     ensures { LocationExamples }
+{}
+
+/// What a member that is null says where null may stand for an absent property.
+pub fn setting_examples()
+    ensures { SettingExamples }
 {}
 
 /// Which texts are dates and date-times.

@@ -1,6 +1,6 @@
 //! What holds of admission and of reading: each law is the contract of a function that does nothing.
 
-ghost use Rattle.schema_defs.specs.Laws.{AdmissionUnfolds, AnnotationsSayNothing, NoAnnotationMatters, KeywordsAreMembers, UnknownMembersSayNothing, FormatsAreLawful, PlacesDiffer, ChildrenStand, SpareReferencesSayNothing, GuardedIsDecided, LoopsAreUnguarded, DefinitionsRise};
+ghost use Rattle.schema_defs.specs.Laws.{AdmissionUnfolds, AnnotationsSayNothing, NoAnnotationMatters, KeywordsAreMembers, UnknownMembersSayNothing, FormatsAreLawful, PlacesDiffer, ChildrenStand, SpareReferencesSayNothing, GuardedIsDecided, LoopsAreUnguarded, DefinitionsRise, SettingsAreKept, WalksKnowNoSetting};
 
 /// Admission of an object schema is what its keywords say, each in terms of what the schemas in it admit.
 pub fn admission_unfolds()
@@ -27,6 +27,11 @@ pub fn unknown_members_say_nothing()
     ensures { UnknownMembersSayNothing }
 {}
 
+/// A setting changes nothing in what is read but the setting itself.
+pub fn settings_are_kept()
+    ensures { SettingsAreKept }
+{}
+
 /// Ipv4 texts and ipv6 texts are ip texts by the formats' definitions.
 pub fn formats_are_lawful()
     ensures { FormatsAreLawful }
@@ -50,6 +55,11 @@ pub fn spare_references_say_nothing()
 /// The test on a document decides whether it is guarded.
 pub fn guarded_is_decided()
     ensures { GuardedIsDecided }
+{}
+
+/// Whether a document is guarded, and which walks return, doesn't depend on its setting.
+pub fn walks_know_no_setting()
+    ensures { WalksKnowNoSetting }
 {}
 
 /// A walk at one value that returns to its first location shows that a document is not guarded.

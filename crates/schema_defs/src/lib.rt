@@ -16,6 +16,14 @@ pub enum InstanceType {
     Integer,
 }
 
+/// How a member that is null is judged. Under `Strict` `properties` binds each member that it names. Under `NullAbsent` null may stand for
+/// the absence of a property that isn't required, so `properties` says nothing of it there.
+#[derive(Clone, Copy, PartialEq, Eq)]
+pub enum Setting {
+    Strict,
+    NullAbsent,
+}
+
 /// The formats of texts that are judged. `DateTime` is `date-time`; `Ip` is either of the two after it.
 #[derive(Clone, Copy, PartialEq, Eq)]
 pub enum Format {

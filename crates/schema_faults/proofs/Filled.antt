@@ -4,6 +4,7 @@ use Rattle.std.specs.Prelude.{not, is_some, codes, if◌then◌else◌, filter}
 use Rattle.std.specs.List.{list_any, flat_map}
 use Rattle.json_value.specs.Value as value
 use Rattle.json_value.specs.Value.{Value, Items, Members, null, number, fraction, text, list, item, no_items, member, no_members, member_at, is_whole, all_whole, members_whole}
+use Rattle.schema_defs.specs.declared.Setting.TheVariants.{Strict}
 use Rattle.schema_defs.specs.Location.{Step, place}
 use Rattle.schema_defs.specs.Read.{document_of, filled, filled_items, filled_members}
 use Rattle.schema_faults.specs.declared.keyword.Holds.{Holds}
@@ -395,8 +396,8 @@ none_is None h = refl
 none_is (Some x) h = absurd (true≢false h)
 
 -- a malformed place stands exactly where the filled value has no reading
-pub told_or_read : (v : Value) → is_some (first (malformed_places v)) ≡ not (is_some (document_of (filled v)))
-told_or_read v = first_is (malformed_places v) ∙ ap not (empty-told malformed_keywords (schemas_of v) ∙ sym (document_kept v) ∙ sym (document_quiet (filled v)))
+pub told_or_read : (v : Value) → is_some (first (malformed_places v)) ≡ not (is_some (document_of Strict (filled v)))
+told_or_read v = first_is (malformed_places v) ∙ ap not (empty-told malformed_keywords (schemas_of v) ∙ sym (document_kept v) ∙ sym (document_quiet Strict (filled v)))
 
 flipped : (a b : Bool) → a ≡ not b → a ≡ true → b ≡ false
 flipped a true h k = absurd (true≢false (sym k ∙ h))
@@ -405,5 +406,5 @@ flipped a false h k = refl
 pub malformed_has_a_place : MalformedHasAPlace
 malformed_has_a_place v = (
   λ h. told_or_read v ∙ ap (λ o. not (is_some o)) h,
-  λ h. none_is (document_of (filled v)) (flipped (is_some (first (malformed_places v))) (is_some (document_of (filled v))) (told_or_read v) h),
+  λ h. none_is (document_of Strict (filled v)) (flipped (is_some (first (malformed_places v))) (is_some (document_of Strict (filled v))) (told_or_read v) h),
 )

@@ -93,19 +93,19 @@ no_keyword : {A : Type 0} (g : Reading → Option A) (o : Option Reading) → is
 no_keyword g None h = refl
 no_keyword g (Some r) h = absurd (true≢false h)
 
-abbrev AllAbsent : List (List ℕ) → Lookup → Type 0
+abbrev pub AllAbsent : List (List ℕ) → Lookup → Type 0
 AllAbsent [] f = Unit {0}
 AllAbsent (n ∷ ns) f = (is_some (f n) ≡ false) × AllAbsent ns f
 
-or_left : (a b : Bool) → (a || b) ≡ false → a ≡ false
+pub or_left : (a b : Bool) → (a || b) ≡ false → a ≡ false
 or_left false b h = refl
 or_left true b h = h
 
-or_right : (a b : Bool) → (a || b) ≡ false → b ≡ false
+pub or_right : (a b : Bool) → (a || b) ≡ false → b ≡ false
 or_right false b h = h
 or_right true b h = absurd (true≢false h)
 
-none_stands : (ns : List (List ℕ)) (f : Lookup) → any_stands ns f ≡ false → AllAbsent ns f
+pub none_stands : (ns : List (List ℕ)) (f : Lookup) → any_stands ns f ≡ false → AllAbsent ns f
 none_stands [] f h = tt
 none_stands (n ∷ ns) f h = (or_left (is_some (f n)) (any_stands ns f) h, none_stands ns f (or_right (is_some (f n)) (any_stands ns f) h))
 

@@ -4,6 +4,7 @@ use Rattle.std.specs.Prelude.{not, is_some, unwrap_or, codes}
 use Rattle.std.specs.List.{list_any, list_all}
 use Rattle.json_value.specs.Value as value
 use Rattle.json_value.specs.Value.{Value, Members, null, number, fraction, text, list, member_at}
+use Rattle.schema_defs.specs.declared.Setting.{Setting}
 use Rattle.schema_defs.specs.Schema.{Properties, no_properties}
 use Rattle.schema_defs.specs.Read.{◌⊛◌, Lookup, lookup_of, optional, reading, member_readings, joined, flat, schema_of, definitions_of, make_document, document_of}
 use Rattle.schema_defs.proofs.Unknown.{keywords_are_members}
@@ -15,7 +16,7 @@ use Rattle.schema_faults.specs.Faults.{Place, Told, told_at, told_among, breaks,
 use Rattle.schema_faults.specs.Laws.{ReadsWithoutFaults, FractionsAreFloats}
 use Rattle.schema_faults.proofs.Walk.{held_at-member}
 use Rattle.schema_faults.proofs.Readings.{is_empty, quiet, quiet-under, faults, star}
-use Rattle.schema_faults.proofs.Objects.{GoodMaybe, and_left, and_right, both, same_truth, each_row, of_rows, row_test, quiet_object, rows_of, reads_of, reads_each, of_reads}
+use Rattle.schema_faults.proofs.Objects.{GoodMaybe, and_left, and_right, or_left, or_right, both, same_truth, each_row, of_rows, row_test, quiet_object, rows_of, reads_of, reads_each, of_reads}
 use Rattle.schema_faults.proofs.Documents.{good_at}
 use Rattle.schema_faults.proofs.Definitions.{share, property_names, named_names, joined_some}
 
@@ -116,35 +117,35 @@ module _ (ms : Members) where
       (seen (codes "definitions") under_definitions (good_at ms (codes "definitions"))) (seen (codes "$defs") under_defs (good_at ms (codes "$defs")))
       ∙ sym (λ i. defs_row i && definitions_row i)
 
-  object_read : is_some (document_of (value.object ms)) ≡ (is_some (schema_of look) && is_some (definitions_of look))
+  object_read : (setting : Setting) → is_some (document_of setting (value.object ms)) ≡ (is_some (schema_of look) && is_some (definitions_of look))
   unfolding document_of
-  object_read = star (Some make_document ⊛ schema_of look) (definitions_of look) ∙ ap (λ b. b && is_some (definitions_of look)) (star (Some make_document) (schema_of look))
+  object_read setting = star (Some (make_document setting) ⊛ schema_of look) (definitions_of look) ∙ ap (λ b. b && is_some (definitions_of look)) (star (Some (make_document setting)) (schema_of look))
 
-  object_quiet : is_some (document_of (value.object ms)) ≡ list_all (row_test true ms) keywords
-  object_quiet =
-      same_truth (is_some (document_of (value.object ms))) (list_all (row_test true ms) keywords)
+  object_quiet : (setting : Setting) → is_some (document_of setting (value.object ms)) ≡ list_all (row_test true ms) keywords
+  object_quiet setting =
+      same_truth (is_some (document_of setting (value.object ms))) (list_all (row_test true ms) keywords)
       (λ h.
-      let r = sym object_read ∙ h in
+      let r = sym (object_read setting) ∙ h in
       let d = sym definitions_read ∙ and_right (is_some (schema_of look)) (is_some (definitions_of look)) r in
       of_rows (row_test true ms) keywords (rows_of ms (good_at ms) true
       (and_left (row_test true ms (codes "$defs", Defs)) (row_test true ms (codes "definitions", Definitions)) d) (and_right (row_test true ms (codes "$defs", Defs)) (row_test true ms (codes "definitions", Definitions)) d)
       (reads_each look (and_left (is_some (schema_of look)) (is_some (definitions_of look)) r))))
       (λ h.
       let r = each_row (row_test true ms) keywords h in
-      object_read ∙ both (is_some (schema_of look)) (is_some (definitions_of look)) (of_reads look (reads_of ms (good_at ms) true r))
+      object_read setting ∙ both (is_some (schema_of look)) (is_some (definitions_of look)) (of_reads look (reads_of ms (good_at ms) true r))
       (definitions_read ∙ both (row_test true ms (codes "$defs", Defs)) (row_test true ms (codes "definitions", Definitions)) r.0 r.1.1.1.1.1.1.1.1.1.0))
 
 -- ---- whole documents
 
-pub document_quiet : (v : Value) → is_some (document_of v) ≡ quiet faults (schemas_of v)
+pub document_quiet : (setting : Setting) (v : Value) → is_some (document_of setting v) ≡ quiet faults (schemas_of v)
 unfolding document_of
-document_quiet null = refl
-document_quiet (value.boolean b) = refl
-document_quiet (number z) = refl
-document_quiet fraction = refl
-document_quiet (text s) = refl
-document_quiet (list xs) = refl
-document_quiet (value.object ms) = object_quiet ms ∙ sym (quiet_object true [] ms)
+document_quiet setting null = refl
+document_quiet setting (value.boolean b) = refl
+document_quiet setting (number z) = refl
+document_quiet setting fraction = refl
+document_quiet setting (text s) = refl
+document_quiet setting (list xs) = refl
+document_quiet setting (value.object ms) = object_quiet ms setting ∙ sym (quiet_object true [] ms)
 
 -- ---- places
 
@@ -178,13 +179,13 @@ quiet_both (n ∷ ns) =
     ∙ shuffled (is_empty (malformed_keywords n.at_root n.keyword n.value)) (is_empty (fraction_marks n.at_root n.keyword n.value)) (quiet malformed_keywords ns) (quiet fraction_marks ns)
 
 pub reads_without_faults : ReadsWithoutFaults
-reads_without_faults v = (
+reads_without_faults setting v = (
   λ h.
-      let q = sym (quiet_both (schemas_of v)) ∙ sym (document_quiet v) ∙ h in (
+      let q = sym (quiet_both (schemas_of v)) ∙ sym (document_quiet setting v) ∙ h in (
         is_none (malformed_places v) (empty-told malformed_keywords (schemas_of v) ∙ and_left (quiet malformed_keywords (schemas_of v)) (quiet fraction_marks (schemas_of v)) q),
         is_none (fraction_places v) (empty-told fraction_marks (schemas_of v) ∙ and_right (quiet malformed_keywords (schemas_of v)) (quiet fraction_marks (schemas_of v)) q),
       ),
-  λ h. document_quiet v ∙ quiet_both (schemas_of v) ∙ both (quiet malformed_keywords (schemas_of v)) (quiet fraction_marks (schemas_of v))
+  λ h. document_quiet setting v ∙ quiet_both (schemas_of v) ∙ both (quiet malformed_keywords (schemas_of v)) (quiet fraction_marks (schemas_of v))
       (sym (empty-told malformed_keywords (schemas_of v)) ∙ ap is_empty h.0) (sym (empty-told fraction_marks (schemas_of v)) ∙ ap is_empty h.1),
 )
 
@@ -207,14 +208,6 @@ not_float SchemaOrSchemas v e = refl
 not_float NamedSchemas v e = refl
 not_float Defs v e = refl
 not_float Definitions v e = refl
-
-or_left : (a b : Bool) → (a || b) ≡ false → a ≡ false
-or_left false b h = refl
-or_left true b h = h
-
-or_right : (a b : Bool) → (a || b) ≡ false → b ≡ false
-or_right false b h = h
-or_right true b h = absurd (true≢false h)
 
 not_present : (h : Holds) (o : Option Value) → if_present (is_float h) o ≡ false → if_present (holds_fraction h) o ≡ false
 not_present h None e = refl

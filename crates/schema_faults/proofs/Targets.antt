@@ -3,6 +3,7 @@ use Rattle.std.proofs.Common.{◌≡◌, ℕ, List, [], ◌∷◌, Option, Some,
 use Rattle.std.specs.Prelude.{is_some, unwrap_or, codes, if◌then◌else◌}
 use Rattle.json_value.specs.Value as value
 use Rattle.json_value.specs.Value.{Value, Members, null, number, fraction, text, list, member_at}
+use Rattle.schema_defs.specs.declared.Setting.{Setting}
 use Rattle.schema_defs.specs.Schema.{Schema, boolean, Properties, no_properties, Definition, Document}
 use Rattle.schema_defs.specs.Admits.{target, defined, defined_as, definition_name, is_root_reference}
 use Rattle.schema_defs.specs.Read.{◌⊛◌, lookup_of, optional, member_readings, joined, flat, schema_of, definitions_of, make_document, document_of}
@@ -58,19 +59,19 @@ module _ (ms : Members) where
       n)
 
   whole : (s : Option Schema) (o : Option (List Definition)) → ((fs : List Definition) → o ≡ Some fs → (n : List ℕ) → defines (value.object ms) n ≡ among n (names_of fs))
-      → (d : Document) → Some make_document ⊛ s ⊛ o ≡ Some d → (n : List ℕ) → defines (value.object ms) n ≡ among n (names_of d.definitions)
-  whole None None h d e n = absurd (none_is_not d e)
-  whole (Some s) None h d e n = absurd (none_is_not d e)
-  whole None (Some fs) h d e n = absurd (none_is_not d e)
-  whole (Some s) (Some fs) h d e n = h fs refl n ∙ ap (λ d. among n (names_of d.definitions)) (some_same (make_document s fs) d e)
+      → (setting : Setting) (d : Document) → Some (make_document setting) ⊛ s ⊛ o ≡ Some d → (n : List ℕ) → defines (value.object ms) n ≡ among n (names_of d.definitions)
+  whole None None h setting d e n = absurd (none_is_not d e)
+  whole (Some s) None h setting d e n = absurd (none_is_not d e)
+  whole None (Some fs) h setting d e n = absurd (none_is_not d e)
+  whole (Some s) (Some fs) h setting d e n = h fs refl n ∙ ap (λ d. among n (names_of d.definitions)) (some_same (make_document setting s fs) d e)
 
 pub leads_to_targets : LeadsToTargets
 unfolding document_of
-leads_to_targets null d e q = absurd (none_is_not d e)
-leads_to_targets (value.boolean b) d e q = at_target (value.boolean b) d (λ n. ap (λ d. among n (names_of d.definitions)) (some_same (make_document (boolean b) []) d e)) q
-leads_to_targets (number z) d e q = absurd (none_is_not d e)
-leads_to_targets fraction d e q = absurd (none_is_not d e)
-leads_to_targets (text s) d e q = absurd (none_is_not d e)
-leads_to_targets (list xs) d e q = absurd (none_is_not d e)
-leads_to_targets (value.object ms) d e q =
-    at_target (value.object ms) d (whole ms (schema_of (lookup_of (member_readings ms))) (definitions_of (lookup_of (member_readings ms))) (named ms) d e) q
+leads_to_targets setting null d e q = absurd (none_is_not d e)
+leads_to_targets setting (value.boolean b) d e q = at_target (value.boolean b) d (λ n. ap (λ d. among n (names_of d.definitions)) (some_same (make_document setting (boolean b) []) d e)) q
+leads_to_targets setting (number z) d e q = absurd (none_is_not d e)
+leads_to_targets setting fraction d e q = absurd (none_is_not d e)
+leads_to_targets setting (text s) d e q = absurd (none_is_not d e)
+leads_to_targets setting (list xs) d e q = absurd (none_is_not d e)
+leads_to_targets setting (value.object ms) d e q =
+    at_target (value.object ms) d (whole ms (schema_of (lookup_of (member_readings ms))) (definitions_of (lookup_of (member_readings ms))) (named ms) setting d e) q

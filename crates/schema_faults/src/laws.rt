@@ -7,7 +7,7 @@ pub fn malformed_has_a_place()
     ensures { MalformedHasAPlace }
 {}
 
-/// A value is read as a document exactly where no place is malformed and no number that is kept is a fraction.
+/// A value is read as a document, whatever the setting, exactly where no place is malformed and no number that is kept is a fraction.
 pub fn reads_without_faults()
     ensures { ReadsWithoutFaults }
 {}

@@ -16,6 +16,3 @@ mod search;
 pub use first::{first_bad_reference, first_float, first_malformed, is_internal_reference};
 pub use found::{Found, Place};
 pub use keyword::Holds;
-
-#[cfg(test)]
-mod tests;

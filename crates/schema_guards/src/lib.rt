@@ -4,7 +4,5 @@
 pub mod examples;
 pub mod laws;
 mod references;
-#[cfg(test)]
-mod tests;
 
 pub use references::references_of;

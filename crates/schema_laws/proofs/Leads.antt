@@ -7,6 +7,7 @@ use Rattle.schema_defs.specs.Schema.{Plain, Schema, object, Same, same_value, no
 use Rattle.schema_defs.specs.Children.{Node, at_schema, at_list, at_names, maybe_node, list_node, places_node, same_node, lists_node, named_node, either_node, schema_node, reference_of}
 use Rattle.schema_defs.specs.Read.{◌⊛◌, Reading, Lookup, optional, keyword, by_value, any_stands, text_of, flag_of, size_of, kept, kept_list, names_of, types_of, unless_empty, places_of, maybe_schema, maybe_list, same_words, condition_words, list_words, member_words, make_plain, make_same, make_lists, make_named, numbers_of, texts_of, plain_of, same_of, lists_of, named_of, schema_of}
 use Rattle.schema_defs.proofs.Stand.{some_same, none_is_not}
+use Rattle.schema_faults.proofs.Objects.{AllAbsent, none_stands}
 use Rattle.schema_laws.proofs.Options.{IfThere, passed3, taken3, taken4, tenth}
 
 -- ---- keywords that stand
@@ -25,22 +26,6 @@ at_reading f (Some r) = by_answer f r (f r) refl
 -- a keyword that stands is read
 pub present : {A : Type 0} (k : List ℕ) (f : Reading → Option A) (look : Lookup) → IfThere (Present (look k) f) (keyword k f look)
 present k f look = at_reading f (look k)
-
-or_left : (a b : Bool) → (a || b) ≡ false → a ≡ false
-or_left false b h = refl
-or_left true b h = h
-
-or_right : (a b : Bool) → (a || b) ≡ false → b ≡ false
-or_right false b h = h
-or_right true b h = absurd (true≢false h)
-
-abbrev AllAbsent : List (List ℕ) → Lookup → Type 0
-AllAbsent [] f = Unit {0}
-AllAbsent (n ∷ ns) f = (is_some (f n) ≡ false) × AllAbsent ns f
-
-none_stands : (ns : List (List ℕ)) (f : Lookup) → any_stands ns f ≡ false → AllAbsent ns f
-none_stands [] f h = tt
-none_stands (n ∷ ns) f h = (or_left (is_some (f n)) (any_stands ns f) h, none_stands ns f (or_right (is_some (f n)) (any_stands ns f) h))
 
 by_part : {A : Type 0} (P : A → Type 0) (b : Bool) (x : Option A) (absent : A) → IfThere P x → (b ≡ false → P absent) → IfThere P (if b then x else Some absent)
 by_part P true x absent h g = h

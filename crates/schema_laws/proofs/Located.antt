@@ -14,6 +14,7 @@ use Rattle.schema_defs.specs.Schema.{Schema, boolean, Schemas, no_more, schema, 
 use Rattle.schema_defs.specs.Layer.{property_at}
 use Rattle.schema_defs.specs.Admits.{defined}
 use Rattle.schema_defs.specs.Children.{Node as Spot, at_document, at_definitions, at_schema, at_list, at_names, maybe_node, places_node, definition_node, schema_in, schema_node, node_at, along, node_schema}
+use Rattle.schema_defs.specs.declared.Setting.{Setting}
 use Rattle.schema_defs.specs.Read.{◌⊛◌, Reading, Lookup, lookup_of, reading, item_readings, member_readings, keyword, unless_empty, places_of, schema_of, schemas_of, properties_of, with_definition, with_definitions, joined, definitions_of, make_document, document_of}
 use Rattle.schema_defs.specs.Laws.{NamesRise, IsBelowNext}
 use Rattle.schema_defs.proofs.Stand.{none_in, first_or_rest, first_in, rest_in, some_same, none_is_not}
@@ -479,19 +480,19 @@ module _ (d : Document) (rise : NamesRise (names d.definitions)) where
 abbrev ReadAsDocument : Value → Document → Type 0
 ReadAsDocument v d = NamesRise (names d.definitions) → AllRead (at_document d) (nodes.schemas_of v)
 
-all_read : (v : Value) → NamesDiffer v → IfThere (ReadAsDocument v) (document_of v)
+all_read : (setting : Setting) (v : Value) → NamesDiffer v → IfThere (ReadAsDocument v) (document_of setting v)
 unfolding document_of
-all_read null d = tt
-all_read (value.boolean b) d = λ h. ((boolean b, refl, refl), tt)
-all_read (number z) d = tt
-all_read fraction d = tt
-all_read (text s) d = tt
-all_read (list xs) d = tt
-all_read (value.object ms) d =
+all_read setting null d = tt
+all_read setting (value.boolean b) d = λ h. ((boolean b, refl, refl), tt)
+all_read setting (number z) d = tt
+all_read setting fraction d = tt
+all_read setting (text s) d = tt
+all_read setting (list xs) d = tt
+all_read setting (value.object ms) d =
     taken2 (λ s. schema_of (lookup_of (member_readings ms)) ≡ Some s)
     (λ ds. Stands true (lookup_of (member_readings ms) (codes "$defs")) ds × Stands false (lookup_of (member_readings ms) (codes "definitions")) ds)
-    (ReadAsDocument (value.object ms)) (Some make_document) (schema_of (lookup_of (member_readings ms))) (definitions_of (lookup_of (member_readings ms)))
-    (λ s e ds i rise. root_read (make_document s ds) rise ms d e i)
+    (ReadAsDocument (value.object ms)) (Some (make_document setting)) (schema_of (lookup_of (member_readings ms))) (definitions_of (lookup_of (member_readings ms)))
+    (λ s e ds i rise. root_read (make_document setting s ds) rise ms d e i)
     (with_answer (λ s. schema_of (lookup_of (member_readings ms)) ≡ Some s) (schema_of (lookup_of (member_readings ms))) (λ s e. e)) (definitions_stand (lookup_of (member_readings ms)))
 
 each_read : (d : Document) (ns : List Node) → AllRead (at_document d) ns → (n : Node) → Contains ns n → IsReadThere d n
@@ -499,4 +500,4 @@ each_read d [] h n c = absurd (none_in n c)
 each_read d (m ∷ ms) h n c = elim (first_or_rest m ms n c) [ inl q ↦ subst (IsReadThere d) q h.0 | inr g ↦ each_read d ms h.1 n g ]
 
 pub schemas_are_read : SchemasAreRead
-schemas_are_read v d e apart n c = each_read d (nodes.schemas_of v) (subst (IfThere (ReadAsDocument v)) e (all_read v apart) (definitions_rise v d e)) n c
+schemas_are_read setting v d e apart n c = each_read d (nodes.schemas_of v) (subst (IfThere (ReadAsDocument v)) e (all_read setting v apart) (definitions_rise setting v d e)) n c

@@ -11,6 +11,7 @@ use Rattle.schema_defs.specs.Schema.{Schema, boolean, Schemas, schema, Propertie
 use Rattle.schema_defs.specs.Layer.{property_at}
 use Rattle.schema_defs.specs.Admits.{defined, definition_word}
 use Rattle.schema_defs.specs.Children.{Node as Spot, at_document, at_definitions, at_schema, at_list, at_names, maybe_node, definition_node, schema_in, schema_node, node_at, along, node_schema}
+use Rattle.schema_defs.specs.declared.Setting.{Setting}
 use Rattle.schema_defs.specs.Read.{◌⊛◌, Reading, Lookup, lookup_of, reading, item_readings, member_readings, keyword, schema_of, schemas_of, properties_of, with_definition, with_definitions, joined, definitions_of, make_document, document_of}
 use Rattle.schema_defs.specs.Laws.{NamesRise}
 use Rattle.schema_defs.proofs.Stand.{none_in, first_or_rest, first_in, rest_in, some_same, none_is_not}
@@ -74,7 +75,7 @@ from_names (value.object ms) ps e k t f = subst (IfThere (MembersFrom ms)) e (me
 
 -- what a spot of the document was read from, where it stands
 abbrev From : Option Value → Spot → Type 0
-From o (at_document d) = (w : Value) × (o ≡ Some w) × (document_of w ≡ Some d)
+From o (at_document d) = (w : Value) × (setting : Setting) × (o ≡ Some w) × (document_of setting w ≡ Some d)
 From o (at_definitions b d) = (k : Step) (s : Schema) → definition_node b (defined k d.definitions) ≡ Some (at_schema s) → ReadFrom (option_and_then (part_at k) o) s
 From o (at_schema s) = ReadFrom o s
 From o (at_list ss) = (w : Value) × (o ≡ Some w) × ((reading w).as_list ≡ Some ss)
@@ -260,13 +261,13 @@ module _ (ms : Members) (d : Document) (rise : NamesRise (names d.definitions)) 
 abbrev RootFrom : Members → Document → Type 0
 RootFrom ms d = (schema_of (lookup_of (member_readings ms)) ≡ Some d.root) × (NamesRise (names d.definitions) → (k : Step) (m : Spot) → node_at k (at_document d) ≡ Some m → From (member_at k ms) m)
 
-root_from : (ms : Members) → IfThere (RootFrom ms) (document_of (value.object ms))
+root_from : (setting : Setting) (ms : Members) → IfThere (RootFrom ms) (document_of setting (value.object ms))
 unfolding document_of
-root_from ms =
+root_from setting ms =
     taken2 (λ s. schema_of (lookup_of (member_readings ms)) ≡ Some s)
     (λ ds. AllHaveMembers (lookup_of (member_readings ms)) ds × (Stands true (lookup_of (member_readings ms) (codes "$defs")) ds × Stands false (lookup_of (member_readings ms) (codes "definitions")) ds))
-    (RootFrom ms) (Some make_document) (schema_of (lookup_of (member_readings ms))) (definitions_of (lookup_of (member_readings ms)))
-    (λ s e ds i. (e, λ rise. root_step ms (make_document s ds) rise i.0 i.1 e))
+    (RootFrom ms) (Some (make_document setting)) (schema_of (lookup_of (member_readings ms))) (definitions_of (lookup_of (member_readings ms)))
+    (λ s e ds i. (e, λ rise. root_step ms (make_document setting s ds) rise i.0 i.1 e))
     (with_answer (λ s. schema_of (lookup_of (member_readings ms)) ≡ Some s) (schema_of (lookup_of (member_readings ms))) (λ s e. e))
     (two (AllHaveMembers (lookup_of (member_readings ms))) (λ ds. Stands true (lookup_of (member_readings ms) (codes "$defs")) ds × Stands false (lookup_of (member_readings ms) (codes "definitions")) ds)
     (definitions_of (lookup_of (member_readings ms))) (definitions_from (lookup_of (member_readings ms))) (definitions_stand (lookup_of (member_readings ms))))
@@ -275,36 +276,36 @@ root_from ms =
     two P Q None h g = tt
     two P Q (Some x) h g = (h, g)
 
-root_is : (w : Value) (d : Document) → document_of w ≡ Some d → (reading w).as_schema ≡ Some d.root
+root_is : (setting : Setting) (w : Value) (d : Document) → document_of setting w ≡ Some d → (reading w).as_schema ≡ Some d.root
 unfolding document_of
-root_is null d e = absurd (none_is_not d e)
-root_is (value.boolean b) d e = ap (λ d. Some d.root) (some_same (make_document (boolean b) []) d e)
-root_is (number z) d e = absurd (none_is_not d e)
-root_is fraction d e = absurd (none_is_not d e)
-root_is (text s) d e = absurd (none_is_not d e)
-root_is (list xs) d e = absurd (none_is_not d e)
-root_is (value.object ms) d e = (subst (IfThere (RootFrom ms)) e (root_from ms)).0
+root_is setting null d e = absurd (none_is_not d e)
+root_is setting (value.boolean b) d e = ap (λ d. Some d.root) (some_same (make_document setting (boolean b) []) d e)
+root_is setting (number z) d e = absurd (none_is_not d e)
+root_is setting fraction d e = absurd (none_is_not d e)
+root_is setting (text s) d e = absurd (none_is_not d e)
+root_is setting (list xs) d e = absurd (none_is_not d e)
+root_is setting (value.object ms) d e = (subst (IfThere (RootFrom ms)) e (root_from setting ms)).0
 
-boolean_step : (b : Bool) (k : Step) (m : Spot) → node_at k (at_document (make_document (boolean b) [])) ≡ Some m → From None m
-boolean_step b k m e = at_words (bytes_eq k (definition_word false)) (bytes_eq k (definition_word true)) e
+boolean_step : (setting : Setting) (b : Bool) (k : Step) (m : Spot) → node_at k (at_document (make_document setting (boolean b) [])) ≡ Some m → From None m
+boolean_step setting b k m e = at_words (bytes_eq k (definition_word false)) (bytes_eq k (definition_word true)) e
   where
-    no_definition : (c : Bool) → From None (at_definitions c (make_document (boolean b) []))
+    no_definition : (c : Bool) → From None (at_definitions c (make_document setting (boolean b) []))
     no_definition c k s f = absurd (none_is_not (at_schema s) f)
 
-    at_words : (p q : Bool) → (if p then Some (at_definitions false (make_document (boolean b) [])) else (if q then Some (at_definitions true (make_document (boolean b) [])) else None)) ≡ Some m → From None m
+    at_words : (p q : Bool) → (if p then Some (at_definitions false (make_document setting (boolean b) [])) else (if q then Some (at_definitions true (make_document setting (boolean b) [])) else None)) ≡ Some m → From None m
     at_words true q f = subst (From None) (some_same _ m f) (no_definition false)
     at_words false true f = subst (From None) (some_same _ m f) (no_definition true)
     at_words false false f = absurd (none_is_not m f)
 
-document_step : (w : Value) (d : Document) → document_of w ≡ Some d → (k : Step) (m : Spot) → node_at k (at_document d) ≡ Some m → From (part_at k w) m
+document_step : (setting : Setting) (w : Value) (d : Document) → document_of setting w ≡ Some d → (k : Step) (m : Spot) → node_at k (at_document d) ≡ Some m → From (part_at k w) m
 unfolding document_of
-document_step null d e k m f = absurd (none_is_not d e)
-document_step (value.boolean b) d e k m f = boolean_step b k m (subst (λ d. node_at k (at_document d) ≡ Some m) (sym (some_same (make_document (boolean b) []) d e)) f)
-document_step (number z) d e k m f = absurd (none_is_not d e)
-document_step fraction d e k m f = absurd (none_is_not d e)
-document_step (text s) d e k m f = absurd (none_is_not d e)
-document_step (list xs) d e k m f = absurd (none_is_not d e)
-document_step (value.object ms) d e k m f = (subst (IfThere (RootFrom ms)) e (root_from ms)).1 (definitions_rise (value.object ms) d e) k m f
+document_step setting null d e k m f = absurd (none_is_not d e)
+document_step setting (value.boolean b) d e k m f = boolean_step setting b k m (subst (λ d. node_at k (at_document d) ≡ Some m) (sym (some_same (make_document setting (boolean b) []) d e)) f)
+document_step setting (number z) d e k m f = absurd (none_is_not d e)
+document_step setting fraction d e k m f = absurd (none_is_not d e)
+document_step setting (text s) d e k m f = absurd (none_is_not d e)
+document_step setting (list xs) d e k m f = absurd (none_is_not d e)
+document_step setting (value.object ms) d e k m f = (subst (IfThere (RootFrom ms)) e (root_from setting ms)).1 (definitions_rise setting (value.object ms) d e) k m f
 
 -- ---- locations
 
@@ -321,7 +322,7 @@ definition_spot b (Some x) m e = at_kind (same_bool x.under_defs b) e
     at_kind false f = absurd (none_is_not m f)
 
 one_step : (k : Step) (m n : Spot) (o : Option Value) → From o m → node_at k m ≡ Some n → From (option_and_then (part_at k) o) n
-one_step k (at_document d) n o h e = subst (λ o. From (option_and_then (part_at k) o) n) (sym h.1) (document_step h.0 d h.2 k n e)
+one_step k (at_document d) n o h e = subst (λ o. From (option_and_then (part_at k) o) n) (sym h.2) (document_step h.1 h.0 d h.3 k n e)
 one_step k (at_definitions b d) n o h e =
     let r = definition_spot b (defined k d.definitions) n e in
     subst (From (option_and_then (part_at k) o)) r.1 (h k r.0 (e ∙ ap Some (sym r.1)))
@@ -337,7 +338,7 @@ ends : (o : Option Value) (s : Schema) → ReadFrom o s → ReadFrom (option_and
 ends o s h = (h.0, ap (λ o. option_and_then (value_at []) o) h.1, h.2)
 
 at_end : (m : Spot) (o : Option Value) → From o m → (s : Schema) → node_schema m ≡ Some s → ReadFrom o s
-at_end (at_document d) o h s e = (h.0, h.1, root_is h.0 d h.2 ∙ e)
+at_end (at_document d) o h s e = (h.0, h.2, root_is h.1 h.0 d h.3 ∙ e)
 at_end (at_definitions b d) o h s e = absurd (none_is_not s e)
 at_end (at_schema t) o h s e = (h.0, h.1, h.2 ∙ e)
 at_end (at_list ss) o h s e = absurd (none_is_not s e)
@@ -360,4 +361,4 @@ walk (k ∷ ks) m o h s e =
     subst (λ v. ReadFrom v s) (sym (further k ks o)) (walk_on ks (walk ks) (node_at k m) (option_and_then (part_at k) o) (with_answer (From (option_and_then (part_at k) o)) (node_at k m) (λ n f. one_step k m n o h f)) s e)
 
 pub locations_are_read : LocationsAreRead
-locations_are_read v d e l s f = walk l (at_document d) (Some v) (v, refl, e) s f
+locations_are_read setting v d e l s f = walk l (at_document d) (Some v) (v, setting, refl, e) s f

@@ -9,6 +9,7 @@ use Rattle.json_value.specs.Value.{Value, Items, Members, null, number, fraction
 use Rattle.schema_defs.specs.Location.{place}
 use Rattle.schema_defs.specs.Schema as tree
 use Rattle.schema_defs.specs.Schema.{Plain, Schema, object, Same, same_value, no_same, Lists, lists, no_lists, Named, named, no_named, MaybeSchema, MaybeSchemas, Schemas, no_more, schema, Places, each_item, by_place, Properties, no_properties, property, Definition, Document}
+use Rattle.schema_defs.specs.declared.Setting.{Setting}
 use Rattle.schema_defs.specs.Read.{◌⊛◌, Reading, Lookup, lookup_of, reading, item_readings, member_readings, optional, keyword, by_value, any_stands, text_of, flag_of, size_of, kept, kept_list, names_of, types_of, unless_empty, places_of, maybe_schema, maybe_list, same_words, condition_words, list_words, member_words, make_plain, make_same, make_lists, make_named, numbers_of, texts_of, plain_of, same_of, lists_of, named_of, schema_of, schemas_of, properties_of, with_definition, with_definitions, joined, definitions_of, make_document, document_of}
 use Rattle.schema_defs.proofs.Unknown.{keywords_are_members}
 use Rattle.schema_faults.specs.declared.keyword.Holds.{Holds}
@@ -299,8 +300,8 @@ module _ (p : List ℕ → Bool) where
       (taken2 (IfThere (FineNames p)) (IfThere (FineNames p)) (IfThere (FineDefinitions p)) (Some joined) (keyword (codes "definitions") (λ r. r.as_named) f) (keyword (codes "$defs") (λ r. r.as_named) f)
       (λ x i y j. joined_fine x y i j) h g)
 
-  both_fine : (x : Option Schema) (y : Option (List Definition)) → IfThere (Fine p) x → IfThere (FineDefinitions p) y → IfThere (FineDocument p) (Some make_document ⊛ x ⊛ y)
-  both_fine x y h g = taken2 (Fine p) (FineDefinitions p) (FineDocument p) (Some make_document) x y (λ s i ds j. (i, j)) h g
+  both_fine : (setting : Setting) (x : Option Schema) (y : Option (List Definition)) → IfThere (Fine p) x → IfThere (FineDefinitions p) y → IfThere (FineDocument p) (Some (make_document setting) ⊛ x ⊛ y)
+  both_fine setting x y h g = taken2 (Fine p) (FineDefinitions p) (FineDocument p) (Some (make_document setting)) x y (λ s i ds j. (i, j)) h g
 
   root_fine : (ms : Members) → IsQuiet (nodes.schemas_of (value.object ms)) → IfThere (FineDefinitions p) (definitions_of (lookup_of (member_readings ms)))
   root_fine ms q =
@@ -310,12 +311,12 @@ module _ (p : List ℕ → Bool) where
       (at_keyword ms (codes "$defs") Defs (λ r. r.as_named) (FineNames p) (at_defs (codes "$defs")) true refl (follows_at ms (codes "$defs")) h.0)
 
   -- where each reference of the schemas in a value passes, each of the document does
-  pub document_fine : (v : Value) → IsQuiet (nodes.schemas_of v) → IfThere (FineDocument p) (document_of v)
+  pub document_fine : (setting : Setting) (v : Value) → IsQuiet (nodes.schemas_of v) → IfThere (FineDocument p) (document_of setting v)
   unfolding document_of
-  document_fine null q = tt
-  document_fine (value.boolean b) q = (tt, tt)
-  document_fine (number z) q = tt
-  document_fine fraction q = tt
-  document_fine (text s) q = tt
-  document_fine (list xs) q = tt
-  document_fine (value.object ms) q = both_fine (schema_of (lookup_of (member_readings ms))) (definitions_of (lookup_of (member_readings ms))) (object_fine ms (follows_at ms) true [] q) (root_fine ms q)
+  document_fine setting null q = tt
+  document_fine setting (value.boolean b) q = (tt, tt)
+  document_fine setting (number z) q = tt
+  document_fine setting fraction q = tt
+  document_fine setting (text s) q = tt
+  document_fine setting (list xs) q = tt
+  document_fine setting (value.object ms) q = both_fine setting (schema_of (lookup_of (member_readings ms))) (definitions_of (lookup_of (member_readings ms))) (object_fine ms (follows_at ms) true [] q) (root_fine ms q)

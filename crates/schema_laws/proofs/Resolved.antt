@@ -11,6 +11,6 @@ use Rattle.schema_laws.proofs.Fine.{FineDocument, each_passes}
 use Rattle.schema_laws.proofs.Reading.{document_fine}
 
 pub references_are_resolved : ReferencesAreResolved
-references_are_resolved v d e b l s q f g =
-    let fine : FineDocument (leads v) d = subst (IfThere (FineDocument (leads v))) e (document_fine (leads v) v (sym (empty-told (bad_reference_texts v) (schemas_of v)) ∙ ap is_empty b)) in
-    sym (leads_to_targets v d e q) ∙ each_passes (leads v) d fine l s q f g
+references_are_resolved setting v d e b l s q f g =
+    let fine : FineDocument (leads v) d = subst (IfThere (FineDocument (leads v))) e (document_fine (leads v) setting v (sym (empty-told (bad_reference_texts v) (schemas_of v)) ∙ ap is_empty b)) in
+    sym (leads_to_targets setting v d e q) ∙ each_passes (leads v) d fine l s q f g

@@ -3,6 +3,7 @@ use Rattle.std.proofs.Common.{◌≡◌, ℕ, List, [], ◌∷◌, Option, Some,
 use Rattle.std.specs.Prelude.{Contains, not, is_some, codes}
 use Rattle.json_value.specs.Value as value
 use Rattle.json_value.specs.Value.{Value, Members, null, number, fraction, text, list, member_at}
+use Rattle.schema_defs.specs.declared.Setting.{Setting}
 use Rattle.schema_defs.specs.Schema.{Schema, Document}
 use Rattle.schema_defs.specs.Admits.{target}
 use Rattle.schema_defs.specs.Children.{reference_of, schema_at}
@@ -42,17 +43,17 @@ nothing : (ps : List Place) → ((p : Place) → Contains ps p → ⊥) → ps �
 nothing [] h = refl
 nothing (p ∷ ps) h = absurd (h p (first_in p ps))
 
-module _ (v : Value) (d : Document) (e : document_of v ≡ Some d) (apart : NamesDiffer v) where
+module _ (setting : Setting) (v : Value) (d : Document) (e : document_of setting v ≡ Some d) (apart : NamesDiffer v) where
   refers : (p : Place) (f : Told) → ((b : Bool) (k : List ℕ) (w : Value) → Contains (f b k w) p.1 → Contains (references_in w) p.1) → Contains (told_of f v) p → RefersThere d p
   refers p f h c =
       let r = told_from f (schemas_of v) p c in
-      let t = schemas_are_read v d e apart r.0 r.1 in
+      let t = schemas_are_read setting v d e apart r.0 r.1 in
       (t.0, ap (schema_at d) (sym r.2) ∙ t.1, own r.0.value t.0 p.1 t.2 (h r.0.at_root r.0.keyword r.0.value r.3))
 
   bad_has_none : (p : Place) → Contains (bad_references v) p → target d p.1 ≡ None
   bad_has_none p c =
       let r = told_from (bad_reference_texts v) (schemas_of v) p c in
-      no_target (leads v p.1) (target d p.1) (leads_to_targets v d e p.1) (filtered (λ q. not (leads v q)) (references_in r.0.value) p.1 r.3).1
+      no_target (leads v p.1) (target d p.1) (leads_to_targets setting v d e p.1) (filtered (λ q. not (leads v q)) (references_in r.0.value) p.1 r.3).1
 
   bad_refers : (p : Place) → Contains (bad_references v) p → RefersThere d p
   bad_refers p c = refers p (bad_reference_texts v) (λ b k w h. (filtered (λ q. not (leads v q)) (references_in w) p.1 h).0) c
@@ -63,8 +64,8 @@ module _ (v : Value) (d : Document) (e : document_of v ≡ Some d) (apart : Name
       absurd (true≢false (sym (h p.0 r.0 p.1 r.1 r.2) ∙ ap is_some (bad_has_none p c)))
 
 pub told_references_are_read : ToldReferencesAreRead
-told_references_are_read v d e apart = record {
-  all = λ p c. refers v d e apart p reference_texts (λ b k w h. h) c;
-  bad = λ p c. (bad_refers v d e apart p c, bad_has_none v d e apart p c);
-  none_is_bad = (references_are_resolved v d e, λ h. nothing (bad_references v) (no_bad v d e apart h));
+told_references_are_read setting v d e apart = record {
+  all = λ p c. refers setting v d e apart p reference_texts (λ b k w h. h) c;
+  bad = λ p c. (bad_refers setting v d e apart p c, bad_has_none setting v d e apart p c);
+  none_is_bad = (references_are_resolved setting v d e, λ h. nothing (bad_references v) (no_bad setting v d e apart h));
 }

@@ -2,6 +2,7 @@
 use Rattle.std.specs.Prelude.{◌≡◌, ℕ, List, [], ◌∷◌, Bool, true, false, Option, Some, None, option_map, option_and_then, is_some, codes}
 use Prim.Native.String.{String}
 use Rattle.json_value.specs.Value.{Value}
+use Rattle.schema_defs.specs.declared.Setting.TheVariants.{Strict}
 use Rattle.schema_defs.specs.Location.{Location, place}
 use Rattle.schema_defs.specs.Admits.{target}
 use Rattle.schema_defs.specs.Read.{document_of}
@@ -43,11 +44,11 @@ broken = obj ("not" ≔ ref "#/$defs/b" ∷ [])
 
 -- the reference that stands at a location of the document that is read
 abbrev pub reference_at : Location → Value → Option (List ℕ)
-reference_at l v = option_and_then reference_of (option_and_then (λ d. schema_at d l) (document_of v))
+reference_at l v = option_and_then reference_of (option_and_then (λ d. schema_at d l) (document_of Strict v))
 
 -- whether a reference has a target in the document that is read
 abbrev pub has_target : String → Value → Option Bool
-has_target q v = option_map (λ d. is_some (target d (codes q))) (document_of v)
+has_target q v = option_map (λ d. is_some (target d (codes q))) (document_of Strict v)
 
 pub record ResolvedExamples : Type 0 where
   pub all : reference_places linked ≡ (("$defs" ∷ "a" ∷ "not" ∷ []) ! "#") ∷ (("properties" ∷ "x" ∷ []) ! "#/$defs/a") ∷ []

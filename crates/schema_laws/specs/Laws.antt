@@ -1,6 +1,7 @@
 -- What holds of documents that were read, and of the places that are told of values.
 use Rattle.std.specs.Prelude.{◌≡◌, ◌↔◌, ℕ, List, [], ◌∷◌, ◌++◌, Bool, Some, None, IsSome, Contains, codes}
 use Rattle.json_value.specs.Value.{Value, text, IsSmall}
+use Rattle.schema_defs.specs.declared.Setting.{Setting}
 use Rattle.schema_defs.specs.Location.{Location}
 use Rattle.schema_defs.specs.Schema.{Schema, Document}
 use Rattle.schema_defs.specs.Read.{reading, document_of}
@@ -14,9 +15,9 @@ use Rattle.schema_laws.specs.ValueAt.{value_at, NamesDiffer}
 abbrev pub EachReferenceLeads : Document → Type 0
 EachReferenceLeads d = (l : Location) (s : Schema) (q : List ℕ) → schema_at d l ≡ Some s → reference_of s ≡ Some q → IsSome (target d q)
 
--- where a value has no bad reference, each reference of the document that it is read as has a target there
+-- whatever the setting: where a value has no bad reference, each reference of the document that it is read as has a target there
 abbrev pub ReferencesAreResolved : Type 0
-ReferencesAreResolved = (v : Value) (d : Document) → document_of v ≡ Some d → bad_references v ≡ [] → EachReferenceLeads d
+ReferencesAreResolved = (setting : Setting) (v : Value) (d : Document) → document_of setting v ≡ Some d → bad_references v ≡ [] → EachReferenceLeads d
 
 -- each schema of a value stands where its steps lead
 abbrev pub SchemasStand : Type 0
@@ -50,12 +51,12 @@ IsReadThere d n = (s : Schema) × (schema_at d n.steps ≡ Some s) × ((reading 
 
 -- each schema of a value stands at its steps in the document that the value is read as
 abbrev pub SchemasAreRead : Type 0
-SchemasAreRead = (v : Value) (d : Document) → document_of v ≡ Some d → NamesDiffer v → (n : Node) → Contains (schemas_of v) n → IsReadThere d n
+SchemasAreRead = (setting : Setting) (v : Value) (d : Document) → document_of setting v ≡ Some d → NamesDiffer v → (n : Node) → Contains (schemas_of v) n → IsReadThere d n
 
 -- and whatever schema stands at a location of the document is what the value there is read as
 abbrev pub LocationsAreRead : Type 0
 LocationsAreRead =
-    (v : Value) (d : Document) → document_of v ≡ Some d → (l : Location) (s : Schema) → schema_at d l ≡ Some s
+    (setting : Setting) (v : Value) (d : Document) → document_of setting v ≡ Some d → (l : Location) (s : Schema) → schema_at d l ≡ Some s
     → (w : Value) × (value_at l v ≡ Some w) × ((reading w).as_schema ≡ Some s)
 
 -- the document has that reference there
@@ -69,4 +70,4 @@ pub record ReferencesAreRead (v : Value) (d : Document) : Type 0 where
   pub none_is_bad : (bad_references v ≡ []) ↔ EachReferenceLeads d
 
 abbrev pub ToldReferencesAreRead : Type 0
-ToldReferencesAreRead = (v : Value) (d : Document) → document_of v ≡ Some d → NamesDiffer v → ReferencesAreRead v d
+ToldReferencesAreRead = (setting : Setting) (v : Value) (d : Document) → document_of setting v ≡ Some d → NamesDiffer v → ReferencesAreRead v d

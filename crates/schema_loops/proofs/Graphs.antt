@@ -18,7 +18,7 @@ use Rattle.schema_defs.specs.Laws.{NamesRise, IsBelowNext}
 use Rattle.schema_defs.specs.References.{same_references}
 use Rattle.schema_defs.specs.Walks.{IsGuarded}
 use Rattle.schema_defs.proofs.Stand.{none_in, first_or_rest, first_in, rest_in, some_same, none_is_not}
-use Rattle.schema_defs.proofs.Guarded.{definition_stands, defined_is}
+use Rattle.schema_defs.proofs.Guarded.{defined_named, definition_stands, defined_is}
 use Rattle.reference_graph.specs.Graph.{Graph, IsAcyclic}
 use Rattle.schema_guards.specs.Targets.{definitions_under, target_places, same_place, number_in, number_at, number_of, numbers_at, reference_graph_of}
 use Rattle.schema_guards.proofs.Guards.{same_place-sound, same_place-itself, in_places, guarded_is_acyclic}
@@ -118,14 +118,6 @@ none_found n (d ∷ ds) f x h e = by_test (bytes_eq n d.name) refl f (λ g k. no
       | inr k ↦ r g k
     ]
 
-name_found : (n : List ℕ) (xs : List Definition) (e : Definition) → defined n xs ≡ Some e → (n ≡ e.name) × Contains xs e
-name_found n [] e f = absurd (none_is_not e f)
-name_found n (d ∷ ds) e f = by_test (bytes_eq n d.name) refl f (name_found n ds e)
-  where
-    by_test : (b : Bool) → bytes_eq n d.name ≡ b → (if b then Some d else defined n ds) ≡ Some e → (defined n ds ≡ Some e → (n ≡ e.name) × Contains ds e) → (n ≡ e.name) × Contains (d ∷ ds) e
-    by_test true p g r = let s = some_same d e g in ((bytes_eq-Decides n d.name).0 p ∙ ap (λ d. d.name) s, subst (λ y. Contains (d ∷ ds) y) s (first_in d ds))
-    by_test false p g r = let k = r g in (k.0, rest_in d ds e k.1)
-
 module _ (d : Document) where
   under_found : (n : List ℕ) (e : Definition) → defined n d.definitions ≡ Some e → is_under_defs d n ≡ e.under_defs
   under_found n e f = by_word e.under_defs refl
@@ -135,7 +127,7 @@ module _ (d : Document) where
       by_word false k = let other : same_bool e.under_defs true ≡ false = ap (λ b. same_bool b true) k in rw (f, other) refl
 
   location_found : (n : List ℕ) (e : Definition) → defined n d.definitions ≡ Some e → location_named d (Some n) ≡ definition_location e
-  location_found n e f = ap (λ b. definition_word b ∷ n ∷ []) (under_found n e f) ∙ ap (λ n. definition_word e.under_defs ∷ n ∷ []) (name_found n d.definitions e f).0
+  location_found n e f = ap (λ b. definition_word b ∷ n ∷ []) (under_found n e f) ∙ ap (λ n. definition_word e.under_defs ∷ n ∷ []) (defined_named n d.definitions e f).0
 
   -- what has the name stands at its place
   pub named_stands : (t : Option (List ℕ)) → schema_at d (location_named d t) ≡ schema_named d t
@@ -240,7 +232,7 @@ module _ (d : Document) (rise : Rises d) where
           in
           ap (λ o. unwrap_or o count) none ∙ count_is
       by_definition n (Some e) f =
-          let r = name_found n d.definitions e f in
+          let r = defined_named n d.definitions e f in
           let here : place e.name ≡ Some (1 + number_in (map definition_location entries) (definition_location e)) =
           ap (place_named e.name 0) names_are ∙ place_of_name e 1 entries (λ x k. u x e (entry_in x k) r.1) (in_places d.definitions e r.1)
           in

@@ -11,8 +11,6 @@ mod decoding;
 mod numbers;
 mod rows;
 mod targets;
-#[cfg(test)]
-mod tests;
 mod walk;
 mod way;
 

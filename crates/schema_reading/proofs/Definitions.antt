@@ -12,6 +12,7 @@ use Rattle.serde_json.specs.View.{members_view}
 use Rattle.json_value.specs.View.{members_of}
 use Rattle.schema_defs.specs.Schema as defs
 use Rattle.schema_defs.specs.Schema.{Properties}
+use Rattle.schema_defs.specs.declared.Setting.{Setting}
 use Rattle.schema_defs.specs.Read.{◌⊛◌, Lookup, keyword, flat, joined, make_document, with_definition, with_definitions, schema_of, definitions_of, document_of}
 use Rattle.schema_types.specs.declared.document.Definition.{Definition}
 use Rattle.schema_types.specs.declared.schema.Schema.{Schema}
@@ -73,6 +74,6 @@ pub definitions_is : (f : Lookup) → definitions_of f ≡ flat (Some joined ⊛
 unfolding definitions_of
 definitions_is f = refl
 
-pub document_is : (es : Entries) → document_of (object (members_of (members_view es))) ≡ Some make_document ⊛ schema_of (looked_up es) ⊛ definitions_of (looked_up es)
+pub document_is : (setting : Setting) (es : Entries) → document_of setting (object (members_of (members_view es))) ≡ Some (make_document setting) ⊛ schema_of (looked_up es) ⊛ definitions_of (looked_up es)
 unfolding document_of looked_up readings
-document_is es = refl
+document_is setting es = refl

@@ -9,6 +9,3 @@ mod reading;
 mod schema;
 
 pub use reading::document;
-
-#[cfg(test)]
-mod tests;

@@ -10,22 +10,30 @@ ghost use Rattle.schema_types.specs.DocumentView.{definitions_view, document_vie
 ghost use Rattle.schema_reading.specs.Reading.{looked_up};
 
 use crate::schema::{object_schema, or_no_schemas, schemas_by_name_at};
-use schema_types::{Definition, Document, Schema};
+use schema_types::{Definition, Document, Schema, Setting};
 use serde_json::Value;
 use serde_json::value::Map;
 use std::alloc::{AllocError, Global};
 use std::collections::BTreeMap;
 
-/// The schema document that a JSON value is (JSON Schema Draft 7, in the profile that is read), or nothing where a known
-/// keyword holds what it may not, a fraction stands where a number or a value is kept, or one name stands under both
-/// `definitions` and `$defs`. Fails only for want of memory.
+/// The schema document that a JSON value is under a setting (JSON Schema Draft 7, in the profile that is read), or nothing
+/// where a known keyword holds what it may not, a fraction stands where a number or a value is kept, or one name stands
+/// under both `definitions` and `$defs`. Fails only for want of memory.
 #[tactic(auto, unfolding(schema_defs::specs::Read::document_of))]
-pub fn document(alloc: Global, value: &Value) -> Result<Option<Document>, AllocError>
-    ensures { IfOk result (λ o. option_map document_view o ≡ document_of (value_of (view value.now))) }
+pub fn document(
+    alloc: Global,
+    value: &Value,
+    setting: Setting,
+) -> Result<Option<Document>, AllocError>
+    ensures { IfOk result (λ o. option_map document_view o ≡ document_of setting (value_of (view value.now))) }
 {
     match value {
-        Value::Bool(flag) => Ok(Some(Document::new(Schema::Bool(*flag), BTreeMap::new(alloc)))),
-        Value::Object(members) => object_document(alloc, members),
+        Value::Bool(flag) => Ok(Some(Document::new(
+            setting,
+            Schema::Bool(*flag),
+            BTreeMap::new(alloc),
+        ))),
+        Value::Object(members) => object_document(alloc, members, setting),
         _ => Ok(None),
     }
 }
@@ -33,8 +41,9 @@ pub fn document(alloc: Global, value: &Value) -> Result<Option<Document>, AllocE
 fn object_document(
     alloc: Global,
     members: &Map<String, Value>,
+    setting: Setting,
 ) -> Result<Option<Document>, AllocError>
-    ensures { IfOk result (λ o. option_map document_view o ≡ document_of (object_value (members_of (members_view members.now.entries)))) }
+    ensures { IfOk result (λ o. option_map document_view o ≡ document_of setting (object_value (members_of (members_view members.now.entries)))) }
 {
     let Some(root) = object_schema(alloc, members)? else {
         return Ok(None);
@@ -42,7 +51,7 @@ fn object_document(
     let Some(definitions) = definitions(alloc, members)? else {
         return Ok(None);
     };
-    Ok(Some(Document::new(root, definitions)))
+    Ok(Some(Document::new(setting, root, definitions)))
 }
 
 // The definitions under both keywords, unless one name stands under both.

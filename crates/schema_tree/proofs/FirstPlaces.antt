@@ -2,6 +2,7 @@
 use Rattle.std.proofs.Common.{◌≡◌, ℕ, List, [], ◌∷◌, Bool, true, false, true≢false, Some, None, refl, sym, ap, ◌∙◌}
 use Rattle.std.specs.Prelude.{if◌then◌else◌, is_some}
 use Rattle.json_value.specs.Value.{Value}
+use Rattle.schema_defs.specs.declared.Setting.{Setting}
 use Rattle.schema_defs.specs.Location.{Location}
 use Rattle.schema_faults.specs.Faults.{Place, first, bad_references, is_internal}
 use Rattle.schema_tree.specs.Fault.{missing_ref, external_ref}
@@ -20,5 +21,5 @@ told_by_its_mark v l q true e w f = (w, f, e)
 told_by_its_mark v l q false e w f = (w, f, e)
 
 -- a value without a fault has a reading
-pub readable_is_read : (v : Value) → IsReadable v → ¬ (document_of v ≡ None)
-readable_is_read v r none = true≢false (sym ((reads_without_faults v).1 (r.0.0, fractions_are_floats v r.1)) ∙ ap is_some none)
+pub readable_is_read : (setting : Setting) (v : Value) → IsReadable v → ¬ (document_of setting v ≡ None)
+readable_is_read setting v r none = true≢false (sym ((reads_without_faults setting v).1 (r.0.0, fractions_are_floats v r.1)) ∙ ap is_some none)

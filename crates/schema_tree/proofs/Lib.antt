@@ -5,4 +5,5 @@ pub mod Counts
 pub mod NoFloat
 pub mod WidePlaces
 pub mod FirstPlaces
+pub mod Settings
 pub mod WideValues

@@ -1,8 +1,10 @@
 //! The conversion table: what values of an item's type must meet beyond the type itself, and the stated defaults.
 ghost use Rattle.std.specs.Prelude.{◌≡◌, [], IfOk};
+ghost use Rattle.schema_tree.specs.Conversions.{rule_view};
 
+use schema_types::{copy_list_of_texts, copy_list_of_values};
 use serde_json::Value;
-use std::alloc::Global;
+use std::alloc::{AllocError, Global};
 
 /// The table that goes with emitted items, in the order of the items.
 #[derive(Debug, Drop)]
@@ -36,6 +38,29 @@ pub enum Rule {
     Allow(Vec<Value>),
     /// None of these scalars.
     Deny(Vec<Value>),
+}
+
+impl Rule {
+    /// A copy. Fails only for want of memory.
+    pub fn try_clone(&self, alloc: Global) -> Result<Rule, AllocError>
+        ensures { IfOk result (λ r. rule_view r ≡ rule_view self.now) }
+    {
+        match self {
+            Rule::Text {
+                least,
+                most,
+                all,
+                any,
+            } => Ok(Rule::Text {
+                least: *least,
+                most: *most,
+                all: copy_list_of_texts(alloc, all)?,
+                any: copy_list_of_texts(alloc, any)?,
+            }),
+            Rule::Allow(values) => Ok(Rule::Allow(copy_list_of_values(alloc, values)?)),
+            Rule::Deny(values) => Ok(Rule::Deny(copy_list_of_values(alloc, values)?)),
+        }
+    }
 }
 
 impl Conversions {

@@ -18,7 +18,7 @@ use schema_faults::{
 };
 use schema_loops::loop_of;
 use schema_reading::document;
-use schema_types::{Location, Names, Schema};
+use schema_types::{Location, Names, Schema, Setting};
 use serde_json::Value;
 use std::alloc::{AllocError, Global};
 
@@ -30,19 +30,37 @@ pub struct Document {
 }
 
 impl Document {
-    /// The document that a JSON value is. Refused, in this order, are a keyword that holds what it may not (`Malformed`),
-    /// a reference that names neither the root nor a definition (`MissingRef`; `ExternalRef` where it doesn't begin with
-    /// `#`), a number that isn't whole, or the type `number` outside a list of all types (`Float`), and a walk at one
-    /// value that returns to its first place (`Unguarded`), each at its first place: a schema before those inside it,
-    /// these by the bytes of their keywords, in a list by place, and in an object by name. `Memory` where memory runs out.
+    /// The document that a JSON value is, under the setting `Strict`. Refused, in this order, are a keyword that holds what
+    /// it may not (`Malformed`), a reference that names neither the root nor a definition (`MissingRef`; `ExternalRef` where
+    /// it doesn't begin with `#`), a number that isn't whole, or the type `number` outside a list of all types (`Float`),
+    /// and a walk at one value that returns to its first place (`Unguarded`), each at its first place: a schema before those
+    /// inside it, these by the bytes of their keywords, in a list by place, and in an object by name. `Memory` where memory
+    /// runs out.
     pub fn read(alloc: Global, value: &Value) -> Result<Document, Fault>
-        ensures document { IfOk result (λ d. IsReadAs (value_of (view value.now)) (document_seen d)) }
+        ensures document { IfOk result (λ d. IsReadAs Setting.Strict (value_of (view value.now)) (document_seen d)) }
+        ensures refusal { IfErr result (λ f. IsRefusal (value_of (view value.now)) (fault_view f)) }
+    {
+        let document = Document::read_with(alloc, value, Setting::Strict)?;
+        Ok(document)
+    }
+
+    /// The document that a JSON value is under a setting, with the refusals of `read`, which don't depend on it. Under
+    /// `NullAbsent` null may stand for the absence of a property that isn't required; `read` is this under `Strict`.
+    pub fn read_with(alloc: Global, value: &Value, setting: Setting) -> Result<Document, Fault>
+        ensures document { IfOk result (λ d. IsReadAs setting (value_of (view value.now)) (document_seen d)) }
         ensures refusal { IfErr result (λ f. IsRefusal (value_of (view value.now)) (fault_view f)) }
     {
         check_form(alloc, value)?;
         check_references(alloc, value)?;
         check_numbers(alloc, value)?;
-        read_guarded(alloc, value)
+        read_guarded(alloc, value, setting)
+    }
+
+    /// Whether null may stand for an absent property. It takes no memory.
+    pub fn setting(&self) -> Setting
+        ensures { result ≡ (document_seen self.now).setting }
+    {
+        self.parts.setting()
     }
 
     /// The root. It takes no memory.
@@ -146,12 +164,13 @@ fn check_numbers(alloc: Global, value: &Value) -> Result<(), Fault>
 }
 
 // The document, unless a walk at one value returns to its first place.
-fn read_guarded(alloc: Global, value: &Value) -> Result<Document, Fault>
+#[tactic(auto, using(crate::proofs::Settings::loop_is_told))]
+fn read_guarded(alloc: Global, value: &Value, setting: Setting) -> Result<Document, Fault>
     requires { IsReadable (value_of (view value.now)) }
-    ensures document { IfOk result (λ d. IsReadAs (value_of (view value.now)) (document_seen d)) }
+    ensures document { IfOk result (λ d. IsReadAs setting (value_of (view value.now)) (document_seen d)) }
     ensures refusal { IfErr result (λ f. IsRefusal (value_of (view value.now)) (fault_view f)) }
 {
-    let Ok(parts) = read_parts(alloc, value) else {
+    let Ok(parts) = read_parts(alloc, value, setting) else {
         return Err(Fault::Memory);
     };
     match loop_of(alloc, &parts) {
@@ -162,11 +181,15 @@ fn read_guarded(alloc: Global, value: &Value) -> Result<Document, Fault>
 }
 
 // A value without a fault has a reading.
-fn read_parts(alloc: Global, value: &Value) -> Result<schema_types::Document, AllocError>
+fn read_parts(
+    alloc: Global,
+    value: &Value,
+    setting: Setting,
+) -> Result<schema_types::Document, AllocError>
     requires { IsReadable (value_of (view value.now)) }
-    ensures { IfOk result (λ d. document_of (value_of (view value.now)) ≡ Some (document_view d)) }
+    ensures { IfOk result (λ d. document_of setting (value_of (view value.now)) ≡ Some (document_view d)) }
 {
-    match document(alloc, value)? {
+    match document(alloc, value, setting)? {
         Some(parts) => Ok(parts),
         None => unreachable!(),
     }

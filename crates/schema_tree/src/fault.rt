@@ -1,6 +1,6 @@
 //! Why a document or a value is refused, and the line that tells it.
-ghost use Rattle.std.specs.Prelude.{◌≡◌, ◌++◌, IfOk, codes, decimal, string_bytes};
-ghost use Rattle.schema_tree.specs.Fault.{fault_line, fault_view, line_at};
+ghost use Rattle.std.specs.Prelude.{◌≡◌, ◌↔◌, ◌++◌, IfOk, IsTrue, codes, decimal, string_bytes};
+ghost use Rattle.schema_tree.specs.Fault.{fault_line, fault_view, line_at, memory};
 
 use crate::print::json_string;
 use schema_types::{Location, Walk};
@@ -115,6 +115,73 @@ pub enum UnsupportedKind {
 }
 
 impl Fault {
+    /// Whether memory ran out. It takes no memory.
+    pub fn is_memory(&self) -> bool
+        ensures { IsTrue result ↔ (fault_view self.now ≡ memory) }
+    {
+        match self {
+            Fault::Memory => true,
+            _ => false,
+        }
+    }
+
+    /// A copy. Fails only for want of memory.
+    pub fn try_clone(&self, alloc: Global) -> Result<Fault, AllocError>
+        ensures { IfOk result (λ f. fault_view f ≡ fault_view self.now) }
+    {
+        match self {
+            Fault::Memory => Ok(Fault::Memory),
+            Fault::Malformed { path, keyword } => Ok(Fault::Malformed {
+                path: path.try_clone(alloc)?,
+                keyword: String::from_str(alloc, keyword)?,
+            }),
+            Fault::MissingRef { path, name } => Ok(Fault::MissingRef {
+                path: path.try_clone(alloc)?,
+                name: String::from_str(alloc, name)?,
+            }),
+            Fault::ExternalRef { path, name } => Ok(Fault::ExternalRef {
+                path: path.try_clone(alloc)?,
+                name: String::from_str(alloc, name)?,
+            }),
+            Fault::Unguarded { walk } => Ok(Fault::Unguarded {
+                walk: walk.try_clone(alloc)?,
+            }),
+            Fault::Depth { walk } => Ok(Fault::Depth {
+                walk: walk.try_clone(alloc)?,
+            }),
+            Fault::Places { path, places } => Ok(Fault::Places {
+                path: path.try_clone(alloc)?,
+                places: *places,
+            }),
+            Fault::Float { path } => Ok(Fault::Float {
+                path: path.try_clone(alloc)?,
+            }),
+            Fault::ValueNumber { index, path } => Ok(Fault::ValueNumber {
+                index: *index,
+                path: path.try_clone(alloc)?,
+            }),
+            Fault::InvalidValue { path, value } => Ok(Fault::InvalidValue {
+                path: path.try_clone(alloc)?,
+                value: value.clone()?,
+            }),
+            Fault::BadValue { path, value } => Ok(Fault::BadValue {
+                path: path.try_clone(alloc)?,
+                value: value.clone()?,
+            }),
+            Fault::InvalidSchema { path, kind } => Ok(Fault::InvalidSchema {
+                path: path.try_clone(alloc)?,
+                kind: *kind,
+            }),
+            Fault::Unsupported { path, kind } => Ok(Fault::Unsupported {
+                path: path.try_clone(alloc)?,
+                kind: *kind,
+            }),
+            Fault::Texts { path } => Ok(Fault::Texts {
+                path: path.try_clone(alloc)?,
+            }),
+        }
+    }
+
     /// The line that tells the fault: `fault`, its name, and its place as a JSON string, with a line feed. A walk stands
     /// for its first place in `Unguarded`, and for its last in `Depth`. The number of the value follows the name
     /// `ValueNumber`. There is no line for want of memory: the text is empty then.

@@ -9,7 +9,6 @@ mod form;
 mod name;
 mod number;
 mod print;
-mod texts;
 mod wide;
 
 pub use conversions::{Constraint, Conversions, Rule};
@@ -20,17 +19,12 @@ pub use json_value::is_whole;
 pub use name::is_kept_name;
 pub use number::{holds_i64_alone, i64_alone_has_no_float};
 pub use print::json_string;
-pub use schema_defs::{Format, InstanceType};
+pub use schema_defs::{Format, InstanceType, Setting};
+pub use schema_texts::{
+    FailingTexts, PlainTexts, TextFault, Texts, failing_texts_are_lawful, plain_texts_are_lawful,
+};
 pub use schema_types::{
     ArrayValidation, Items, Location, Names, NumberValidation, ObjectValidation, Schema,
     SchemaObject, StringValidation, Subschemas, Types, Walk, value_validate,
 };
-pub use texts::{PlainTexts, TextFault, Texts, no_relations_are_lawful};
 pub use wide::{check_values, wide_place, wide_places_are_exact};
-
-#[cfg(test)]
-mod document_tests;
-#[cfg(test)]
-mod large_tests;
-#[cfg(test)]
-mod tests;

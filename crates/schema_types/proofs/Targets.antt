@@ -6,18 +6,8 @@ use Rattle.json_value.specs.Value.{same_bool}
 use Rattle.schema_defs.specs.Schema.{Definition, Document}
 use Rattle.schema_defs.specs.Admits.{defined, defined_as, definition_name, definition_word, definition_location, is_root_reference}
 use Rattle.schema_defs.specs.Children.{schema_at}
+use Rattle.schema_defs.proofs.Guarded.{defined_named}
 use Rattle.schema_types.specs.Laws.{TargetsStand}
-
--- a definition that is found has the name that was sought
-named_step : (b : Bool) (n : List ℕ) (d e : Definition) (rest : Option Definition) → bytes_eq n d.name ≡ b → (rest ≡ Some e → n ≡ e.name) → cond b (Some d) rest ≡ Some e → n ≡ e.name
-named_step true n d e rest h later found =
-    let here : d ≡ e = cc in
-    (bytes_eq-Decides n d.name).0 h ∙ ap (λ x. x.name) here
-named_step false n d e rest h later found = later found
-
-found_by_name : (n : List ℕ) (ds : List Definition) (e : Definition) → defined n ds ≡ Some e → n ≡ e.name
-found_by_name n [] e found = cc
-found_by_name n (d ∷ ds) e found = named_step (bytes_eq n d.name) n d e (defined n ds) refl (found_by_name n ds e) found
 
 itself : (a b : Bool) → a ≡ b → same_bool a b ≡ true
 itself true true h = refl
@@ -32,7 +22,7 @@ placed d false e under found = rw (found, itself e.under_defs false under) refl
 stands : (d : Document) (n : List ℕ) (o : Option Definition) → defined n d.definitions ≡ o → option_and_then (schema_at d) (option_map definition_location o) ≡ option_map (λ e. e.body) o
 stands d n None found = refl
 stands d n (Some e) found =
-    let own : defined e.name d.definitions ≡ Some e = ap (λ k. defined k d.definitions) (sym (found_by_name n d.definitions e found)) ∙ found in
+    let own : defined e.name d.definitions ≡ Some e = ap (λ k. defined k d.definitions) (sym (defined_named n d.definitions e found).0) ∙ found in
     placed d e.under_defs e refl own
 
 targets : (d : Document) (b : Bool) (o : Option (List ℕ))

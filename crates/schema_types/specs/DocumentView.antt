@@ -14,7 +14,7 @@ abbrev pub definitions_view : List (String Global × Definition) → List defs.D
 definitions_view es = map definition_view es
 
 abbrev pub document_view : Document → defs.Document
-document_view d = record { root = schema_view d.root; definitions = definitions_view d.definitions.entries }
+document_view d = record { setting = d.setting; root = schema_view d.root; definitions = definitions_view d.definitions.entries }
 
 -- the keyword that a definition stands under, and its schema
 abbrev pub Placed : Type 0

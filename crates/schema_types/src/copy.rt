@@ -82,7 +82,8 @@ fn copy_value(from: &Option<Value>) -> Result<Option<Value>, AllocError>
     }
 }
 
-fn copy_list_of_values(alloc: Global, from: &Vec<Value>) -> Result<Vec<Value>, AllocError>
+/// Copies of values, in their order. Fails only for want of memory.
+pub fn copy_list_of_values(alloc: Global, from: &Vec<Value>) -> Result<Vec<Value>, AllocError>
     ensures { IfOk result (λ v. map kept_view v.items ≡ map kept_view from.now.items) }
 {
     let mut copies = Vec::with_capacity(alloc, from.len())?;
@@ -121,7 +122,8 @@ fn copy_types(alloc: Global, from: &Option<Types>) -> Result<Option<Types>, Allo
     }
 }
 
-fn copy_list_of_texts(alloc: Global, from: &Vec<String>) -> Result<Vec<String>, AllocError>
+/// Copies of texts, in their order. Fails only for want of memory.
+pub fn copy_list_of_texts(alloc: Global, from: &Vec<String>) -> Result<Vec<String>, AllocError>
     ensures { IfOk result (λ v. map string_bytes v.items ≡ map string_bytes from.now.items) }
 {
     let mut copies = Vec::with_capacity(alloc, from.len())?;

@@ -11,6 +11,7 @@ use crate::location::Location;
 use crate::place::{Node, after, schema_of};
 use crate::reference::{decodes_to, is_escaped, written_name};
 use crate::schema::Schema;
+use schema_defs::Setting;
 use std::collections::BTreeMap;
 use std::collections::btree_map::Keys;
 use std::marker::Model;
@@ -22,20 +23,36 @@ pub struct Definition {
     pub schema: Schema,
 }
 
-/// A schema document: the root, and the definitions in the order of their names, whichever of the two keywords they
-/// stand under.
+/// A schema document: its setting, the root, and the definitions in the order of their names, whichever of the two
+/// keywords they stand under.
 #[derive(Drop)]
 pub struct Document {
+    setting: Setting,
     root: Schema,
     definitions: BTreeMap<String, Definition>,
 }
 
 impl Document {
     /// The document of these parts. It takes no memory.
-    pub fn new(root: Schema, definitions: BTreeMap<String, Definition>) -> Document
-        ensures { document_view result ≡ record { root = schema_view root; definitions = definitions_view definitions.entries } }
+    pub fn new(
+        setting: Setting,
+        root: Schema,
+        definitions: BTreeMap<String, Definition>,
+    ) -> Document
+        ensures { document_view result ≡ record { setting = setting; root = schema_view root; definitions = definitions_view definitions.entries } }
     {
-        Document { root, definitions }
+        Document {
+            setting,
+            root,
+            definitions,
+        }
+    }
+
+    /// Whether null may stand for an absent property. It takes no memory.
+    pub fn setting(&self) -> Setting
+        ensures { result ≡ (document_view self.now).setting }
+    {
+        self.setting
     }
 
     /// The root. It takes no memory.

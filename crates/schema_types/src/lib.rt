@@ -10,15 +10,14 @@ mod place;
 mod reference;
 mod same;
 mod schema;
-#[cfg(test)]
-mod tests;
 mod validate;
 
+pub use copy::{copy_list_of_texts, copy_list_of_values};
 pub use document::{Definition, Document, Names};
 pub use location::{Location, Walk};
 pub use schema::{
     ArrayValidation, Items, NumberValidation, ObjectValidation, Schema, SchemaObject,
     StringValidation, Subschemas, Types,
 };
-pub use schema_defs::InstanceType;
+pub use schema_defs::{InstanceType, Setting};
 pub use validate::value_validate;

@@ -7,7 +7,7 @@ use Rattle.schema_defs.specs.Schema as schema
 use Rattle.schema_defs.specs.Schema.{Document, no_properties, no_schema, the_schema, properties, Properties, MaybeSchema}
 use Rattle.schema_defs.specs.Texts.{Relations}
 use Rattle.schema_defs.specs.Layer.{Judge, member_agrees, maybe, is_given, property_at}
-use Rattle.schema_defs.specs.Admits.{admits, member_judges, name_admits}
+use Rattle.schema_defs.specs.Admits.{admits, member_parts, name_admits}
 use Rattle.schema_tree.specs.Form.{FlatKind, text_kind, boolean_kind, integer_kind}
 use Rattle.typify_run.specs.Flat.{Fields, kind_admits, field_admits, members_admitted, flat_admits, typed, flat_document}
 
@@ -61,10 +61,11 @@ module _ (r : Relations) (d : Document) where
       elim (bytes_eq n f.0) as (λ b. bound (admits r d v) (if b then the_schema (typed f.1) else property_at n (props fs)) ≡ (if b then kind_admits f.1 v else field_admits fs n v))
       [ true ↦ with_trues (admits r d v (typed f.1)) ∙ kind_admitted f.1 v | false ↦ field_bound fs n v ]
 
-  members_bound : (fs : Fields) (ms : Members)
-      → list_all (member_agrees r (name_admits r d) (props fs) no_properties (the_schema (schema.boolean false)) no_schema) (member_judges r d ms) ≡ members_admitted fs ms
-  members_bound fs no_members = refl
-  members_bound fs (member k v ms) = λ i. field_bound fs k v i && members_bound fs ms i
+-- no member stands for its absence here
+members_bound : (r : Relations) (gs fs : Fields) (required : List (List ℕ)) (ms : Members)
+    → list_all (member_agrees r (name_admits r (flat_document gs)) (props r (flat_document gs) fs) no_properties (the_schema (schema.boolean false)) no_schema required) (member_parts r (flat_document gs) ms) ≡ members_admitted fs ms
+members_bound r gs fs required no_members = refl
+members_bound r gs fs required (member k v ms) = λ i. field_bound r (flat_document gs) fs k v i && members_bound r gs fs required ms i
 
 and_true : (b : Bool) → (b && true) ≡ b
 and_true true = refl
@@ -78,4 +79,4 @@ flat_admitted r fs (number z) = refl
 flat_admitted r fs fraction = refl
 flat_admitted r fs (text s) = refl
 flat_admitted r fs (list xs) = refl
-flat_admitted r fs (object ms) = and_true _ ∙ ap (λ b. b && list_all (λ n. has_name n ms) (map (λ f. f.0) fs)) (members_bound r (flat_document fs) fs ms)
+flat_admitted r fs (object ms) = and_true _ ∙ ap (λ b. b && list_all (λ n. has_name n ms) (map (λ f. f.0) fs)) (members_bound r fs fs (map (λ f. f.0) fs) ms)

@@ -8,12 +8,12 @@ use Rattle.schema_defs.specs.Location.{Location}
 use Rattle.schema_defs.specs.Walks.{IsGuarded}
 use Rattle.schema_defs.proofs.Decided.{loops_are_unguarded}
 use Rattle.schema_faults.specs.Faults.{Place, first, malformed_places, bad_references, float_places}
-use Rattle.schema_tree.specs.Document.{HasFault, IsRefusal as IsUnread}
+use Rattle.schema_tree.specs.Document.{HasFault, IsAccepted, IsRefusal as IsUnread}
 use Rattle.schema_tree.specs.Fault.{FaultD, memory, malformed, missing_ref, external_ref, unguarded, depth, places, float, value_number, invalid_value, bad_value, invalid_schema, unsupported, texts}
 use Rattle.schema_tree.specs.Form.{form_of}
 use Rattle.schema_tree.specs.Numbers.{are_i64, holds_i64_alone, wide_place, IsWideAt, HasWideNumber}
 use Rattle.schema_tree.proofs.WidePlaces.{wide_exact}
-use Rattle.typify_run.specs.Examine.{IsAccepted, IsCause, IsRefusal, is_examined}
+use Rattle.typify_run.specs.Examine.{IsCause, IsRefusal, is_examined}
 use Rattle.typify_run.proofs.Reported.{both_true}
 
 -- ---- refusals of the parts are refusals

@@ -4,6 +4,7 @@ use Rattle.std.proofs.lemmas.Slice.Eq.{bytes_eq-Decides}
 use Rattle.json_value.specs.Value as value
 use Rattle.json_value.specs.Value.{Value, Members, Items, null, number, fraction, text, list, object, member, no_members, item_count, member_count}
 use Rattle.schema_defs.specs.Schema.{property, properties}
+use Rattle.schema_defs.specs.declared.Setting.TheVariants.{Strict}
 use Rattle.schema_defs.specs.Read.{document_of, reading, member_readings, properties_of, names_of, ◌⊛◌, definitions_of, schema_of, named_of, lists_of, same_of, plain_of, texts_of, numbers_of, texts_in, name_set}
 use Rattle.schema_tree.specs.Form.{FlatKind, text_kind, boolean_kind, integer_kind, is_kept_name, named_kind, flat_kind, flat_fields, names, same_names, lists_exactly, has_count, is_closed, form_parts, are_form_words, form_of}
 use Rattle.model_defs.specs.Flat.{names_differ}
@@ -15,7 +16,7 @@ form_value ps rs = object (member (codes "additionalProperties") (value.boolean 
 
 computed : (fs : Fields) (ps : Members) (rs : Items)
     → properties_of (member_readings ps) ≡ Some (properties (map (λ f. (f.0, typed f.1)) fs)) → names_of (list rs) ≡ Some (map (λ f. f.0) fs)
-    → document_of (form_value ps rs) ≡ Some (flat_document fs)
+    → document_of Strict (form_value ps rs) ≡ Some (flat_document fs)
 unfolding document_of definitions_of schema_of named_of lists_of same_of plain_of texts_of numbers_of
 computed fs ps rs e f = rw (e, f) refl
 
@@ -105,7 +106,7 @@ words_members = form_members (codes "additionalProperties") (codes "properties")
 
 -- the document is that of the fields, whose names are a set
 abbrev pub Reads : Value → Fields → Type 0
-Reads v fs = (document_of v ≡ Some (flat_document fs)) × (names_differ (flats fs) ≡ true)
+Reads v fs = (document_of Strict v ≡ Some (flat_document fs)) × (names_differ (flats fs) ≡ true)
 
 differing : (o : Option (List (List ℕ))) (fs : Fields) → option_map name_set o ≡ Some (map (λ f. f.0) fs) → names_differ (flats fs) ≡ true
 differing None fs h = cc
@@ -118,7 +119,7 @@ parts_read (text t) (object ps) (list rs) (value.boolean false) fs h =
           let front = both_true (bytes_eq t (codes "object") && not (member_count ps == 0)) (item_count rs == member_count ps) tests.0 in
           let word = both_true (bytes_eq t (codes "object")) (not (member_count ps == 0)) front.0 in
           let listed = listed_equal (names_of (list rs)) (names ps) tests.1 ∙ ap Some (names_read ps fs p.1) in (
-            ap (λ u. document_of (words_members (value.boolean false) (object ps) (list rs) (text u))) ((bytes_eq-Decides t (codes "object")).0 word.0)
+            ap (λ u. document_of Strict (words_members (value.boolean false) (object ps) (list rs) (text u))) ((bytes_eq-Decides t (codes "object")).0 word.0)
                 ∙ computed fs ps rs (fields_read ps fs p.1) listed,
             differing (texts_in rs) fs listed,
           ))
@@ -138,7 +139,7 @@ form_read (object (member a va (member p vp (member r vr (member t vt no_members
           let er = (bytes_eq-Decides r (codes "required")).0 two.1 in
           let et = (bytes_eq-Decides t (codes "type")).0 one.1 in
           let parts = parts_read vt vp vr va fs k.1 in
-          ((λ i. document_of (form_members (ea i) (ep i) (er i) (et i) va vp vr vt)) ∙ parts.0, parts.1))
+          ((λ i. document_of Strict (form_members (ea i) (ep i) (er i) (et i) va vp vr vt)) ∙ parts.0, parts.1))
       | inr k ↦ cc
     ]
 form_read _ fs h = cc

@@ -19,7 +19,8 @@ use Rattle.schema_tree.proofs.NoFloat.{no_float}
 use Rattle.typify_run.specs.Flat.{Fields, flat_document, flats}
 use Rattle.derive_ast.specs.Model.{IsNamedStruct, all_named}
 use Rattle.typify_run.specs.Item.{field_of, root_item, root_ty}
-use Rattle.typify_run.specs.Model.{item_model, conversions_view}
+use Rattle.schema_tree.specs.Conversions.{conversions_view}
+use Rattle.typify_run.specs.Model.{item_model}
 use Rattle.typify_run.specs.Verdict.{VerdictD, verdict_view}
 use Rattle.typify_run.specs.Place.{place_of}
 use Rattle.typify_run.specs.Page.{IsPrintable, ArePrintable}

@@ -5,8 +5,8 @@ use Rattle.schema_defs.specs.Texts.{Relations}
 use Rattle.json_value.specs.View.{value_of}
 use Rattle.schema_tree.specs.Fault.{FaultD}
 use Rattle.schema_tree.specs.declared.fault.Fault.{Fault}
-use Rattle.run_input.specs.Input.{Parts, IsInput, data_of, parts_of}
-use Rattle.typify_run.specs.Outcome.{Answers, EndsReading, IsBare, IsCauseIn, IsCutShort, IsFaultPrinted, IsMemorySpent, IsNoInput, IsReportPrinted, IsReported, IsWritingCut, is_built}
+use Rattle.run_input.specs.Input.{Parts, IsInput, data_of, parts_of, IsNoInput}
+use Rattle.typify_run.specs.Outcome.{Answers, EndsReading, IsBare, IsCauseIn, IsCutShort, IsFaultPrinted, IsMemorySpent, IsReportPrinted, IsReported, IsWritingCut, is_built}
 use Rattle.typify_run.specs.declared.report.Report.{Report}
 use Rattle.typify_run.proofs.Causes.{no_cause}
 

@@ -11,17 +11,12 @@ use Rattle.typify_run.specs.Reader.{AreFlatJudged}
 use Rattle.typify_run.specs.Verdict.{verdict_view}
 use Rattle.typify_run.specs.declared.report.Report.{Report}
 use Rattle.schema_tree.specs.Numbers.{are_i64, HasWideNumber}
-use Rattle.schema_tree.specs.Document.{IsReadAs, HasFault}
-use Rattle.schema_defs.specs.Schema.{Document}
+use Rattle.schema_tree.specs.Document.{IsAccepted, HasFault}
 use Rattle.schema_tree.specs.declared.fault.UnsupportedKind.TheVariants.{NotYet}
 use Rattle.schema_tree.specs.Fault.{FaultD, memory, unsupported, value_number}
 
 abbrev pub is_examined : Value → List Data → Bool
 is_examined schema values = are_i64 values && is_some (form_of schema)
-
--- the schema is a document that no fault keeps from being read
-abbrev pub IsAccepted : Value → Type 0
-IsAccepted schema = (d : Document) × IsReadAs schema d
 
 -- the cause of a fault: the first number of the values that is no i64; else the first fault of the document; else a document that is not converted yet, told at the root
 abbrev pub IsCause : Value → List Data → FaultD → Type 0

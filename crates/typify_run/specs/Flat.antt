@@ -4,6 +4,7 @@ use Rattle.std.specs.List.{list_all}
 use Rattle.json_value.specs.Value.{Value, Members, text, number, boolean, object, member, no_members, has_name}
 use Rattle.schema_defs.specs.declared.InstanceType.{InstanceType}
 use Rattle.schema_defs.specs.declared.InstanceType.TheVariants.{Text, Boolean, Integer, Object}
+use Rattle.schema_defs.specs.declared.Setting.TheVariants.{Strict}
 use Rattle.schema_defs.specs.Schema as schema
 use Rattle.schema_defs.specs.Schema.{Plain, Schema, Document, one_type, no_same, no_lists, no_named, named, no_properties, no_schema, the_schema, properties}
 use Rattle.model_defs.specs.Types.{TypeModel, boolean_type, integer_type, text_type}
@@ -45,6 +46,7 @@ typed k = schema.object (typed_plain (instance k)) no_same no_lists no_named
 
 abbrev pub flat_document : Fields → Document
 flat_document fs = record {
+  setting = Strict;
   root = schema.object (typed_plain Object) no_same no_lists
       (named (properties (map (λ f. (f.0, typed f.1)) fs)) no_properties (the_schema (schema.boolean false)) no_schema
       (record { max_properties = None; min_properties = None; required = map (λ f. f.0) fs }));

@@ -8,6 +8,7 @@ use Rattle.serde_json.specs.Data.{Data}
 use Rattle.json_value.specs.Value.{Value, IsSmall}
 use Rattle.json_value.specs.View.{value_of}
 use Rattle.schema_defs.specs.Location.{Location}
+use Rattle.schema_defs.specs.declared.Setting.TheVariants.{Strict}
 use Rattle.schema_defs.specs.Texts.{Relations}
 use Rattle.schema_defs.specs.Schema.{Document}
 use Rattle.schema_defs.specs.Admits.{admits}
@@ -19,7 +20,8 @@ use Rattle.model_defs.specs.Types.{TypeModel, type_of}
 use Rattle.model_defs.specs.Model.{ContainerModel}
 use Rattle.model_defs.specs.Reads.{reads}
 use Rattle.model_defs.specs.Refusals.{refused_at}
-use Rattle.typify_run.specs.Model.{item_model, conversions_view}
+use Rattle.schema_tree.specs.Conversions.{conversions_view}
+use Rattle.typify_run.specs.Model.{item_model}
 use Rattle.typify_run.specs.Verdict.{VerdictD, taken, refused, verdict_view}
 use Rattle.typify_run.specs.declared.note.Way.{Way}
 use Rattle.typify_run.specs.declared.note.Way.TheVariants.{Narrowed, Widened}
@@ -74,7 +76,7 @@ AreJudged takes stops (d ∷ ds) [] = ⊥
 pub record IsReportOf (texts : Relations) (schema : Value) (values : List Data) (r : Report) : Type 0 where
   -- the schema is a document
   pub document : Document
-  pub is_read : document_of schema ≡ Some document
+  pub is_read : document_of Strict schema ≡ Some document
   -- the items have no diagnostic
   pub clean : AllByRecursion IsClean (items_of r)
   -- without notes the containers read exactly the small values that the document admits, listed or not

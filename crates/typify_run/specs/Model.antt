@@ -1,20 +1,14 @@
 -- What an item that is read back is to the reader of values: of its attributes `deny_unknown_fields` is read, and of its body the fields with names.
-use Rattle.std.specs.Prelude.{ℕ, List, [], ◌∷◌, map, false, Option, Some, None, is_some, string_bytes}
+use Rattle.std.specs.Prelude.{ℕ, List, [], ◌∷◌, map, false, Option, Some, None, is_some}
 use Rattle.token_trees.specs.Token.{Name}
 use Rattle.syntax_trees.specs.Item.{ItemD}
 use Rattle.derive_ast.specs.declared.container.Style.{Style}
 use Rattle.derive_ast.specs.declared.container.Style.TheVariants.{Struct, Tuple, Newtype, Unit as NoFields}
 use Rattle.derive_ast.specs.Model.{FieldModelD, ContainerModelD, fields_of, style_of, field_model}
 use Rattle.derive_attr.specs.Reading.{denies_unknown_fields}
-use Rattle.serde_json.specs.View.{view}
-use Rattle.json_value.specs.View.{value_of}
 use Rattle.model_defs.specs.Types.{type_of}
 use Rattle.model_defs.specs.Model as model
-use Rattle.model_defs.specs.Model.{struct_style, tuple_style, newtype_style, unit_style, no_default, no_helper, FieldModel, struct_model, ContainerModel, RuleD, text_rule, allow_rule, deny_rule, ConstraintD, ConversionsD}
-use Rattle.schema_tree.specs.declared.conversions.Rule.{Rule}
-use Rattle.schema_tree.specs.declared.conversions.Rule.TheVariants.{Text, Allow, Deny}
-use Rattle.schema_tree.specs.declared.conversions.Constraint.{Constraint}
-use Rattle.schema_tree.specs.declared.conversions.Conversions.{Conversions}
+use Rattle.model_defs.specs.Model.{struct_style, tuple_style, newtype_style, unit_style, no_default, no_helper, FieldModel, struct_model, ContainerModel}
 
 abbrev pub text_of : Option Name → List ℕ
 text_of None = []
@@ -40,16 +34,3 @@ item_container i = record { name = i.name; denies = denies_unknown_fields i.attr
 
 abbrev pub item_model : ItemD → ContainerModel
 item_model i = read_container (item_container i)
-
--- ---- the table of conversions
-
-abbrev pub rule_view : Rule → RuleD
-rule_view (Text least most all any) = text_rule (record { least = least; most = most; all = map string_bytes all.items; any = map string_bytes any.items })
-rule_view (Allow vs) = allow_rule (map (λ v. value_of (view v)) vs.items)
-rule_view (Deny vs) = deny_rule (map (λ v. value_of (view v)) vs.items)
-
-abbrev pub constraint_view : Constraint → ConstraintD
-constraint_view c = record { item = string_bytes c.item; rule = rule_view c.rule }
-
-abbrev pub conversions_view : Conversions → ConversionsD
-conversions_view c = record { constraints = map constraint_view c.constraints.items; defaults = map (λ v. value_of (view v)) c.defaults.items }

@@ -3,11 +3,12 @@ use Rattle.std.specs.Prelude.{◌≡◌, ◌⊎◌, ℕ, zero, suc, List, Bool, 
 use Rattle.run_io.specs.Bytes.{Appends, AppendsPrefix}
 use Rattle.json_value.specs.View.{value_of}
 use Rattle.schema_defs.specs.Texts.{Relations}
+use Rattle.schema_tree.specs.Document.{IsAccepted}
 use Rattle.schema_tree.specs.Fault.{FaultD, fault_view, fault_line}
 use Rattle.schema_tree.specs.declared.fault.Fault.{Fault}
-use Rattle.run_input.specs.Input.{Parts, IsInput, data_of}
+use Rattle.run_input.specs.Input.{Parts, IsInput, IsNoInput, data_of}
 use Rattle.typify_run.specs.Headline.{IsReportOf}
-use Rattle.typify_run.specs.Examine.{is_examined, IsAccepted, IsCause}
+use Rattle.typify_run.specs.Examine.{is_examined, IsCause}
 use Rattle.typify_run.specs.Page.{page}
 use Rattle.typify_run.specs.declared.report.Report.{Report}
 
@@ -45,10 +46,6 @@ Answers _ _ _ _ _ _ _ = ⊥
 -- nothing is carried, and nothing was written
 abbrev pub IsBare : Option (List ℕ) → Option (List ℕ) → Option Report → Option Fault → Type 0
 IsBare before after report fault = (after ≡ before) × (report ≡ None) × (fault ≡ None)
-
--- the bytes are no input
-abbrev pub IsNoInput : List ℕ → Type 0
-IsNoInput bytes = (parts : Parts) → IsInput bytes parts → ⊥
 
 -- how a run on these bytes ends: they are no input, or memory ran out, or by what the input's parts say
 abbrev pub Ends : Relations → List ℕ → Option (List ℕ) → Option (List ℕ) → ℕ → Option Report → Option Fault → Type 0

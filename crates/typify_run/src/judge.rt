@@ -27,7 +27,7 @@ pub use verdict::Verdict;
 
 /// Why an item isn't read back.
 #[derive(Drop)]
-pub(crate) enum ReadBackFault {
+pub enum ReadBackFault {
     /// Memory ran out.
     Memory,
     /// Its attributes have diagnostics.
@@ -38,7 +38,7 @@ pub(crate) enum ReadBackFault {
 
 /// A struct that was read back: whether it is closed, and its fields.
 #[derive(Drop)]
-pub(crate) struct Reader {
+pub struct Reader {
     closed: bool,
     fields: Vec<FieldReader>,
 }
@@ -145,7 +145,7 @@ fn private_module(alloc: Global) -> Result<Ident, ReadBackFault> {
 
 impl Reader {
     /// The item read back by the attribute reader for both derives.
-    pub(crate) fn read_back(alloc: Global, item: &DeriveInput) -> Result<Reader, ReadBackFault>
+    pub fn read_back(alloc: Global, item: &DeriveInput) -> Result<Reader, ReadBackFault>
         requires { IsNamedStruct (item_view item.now) }
         ensures { IfOk result (λ r. item_model (item_view item.now) ≡ flat_model (item_view item.now).name.text (reader_closed r) (reader_flats r)) }
     {
@@ -156,7 +156,7 @@ impl Reader {
     }
 
     /// The verdict on a value: taken as it is, or refused where reading stops.
-    pub(crate) fn judge(&self, alloc: Global, value: &Value) -> Result<Verdict, AllocError>
+    pub fn judge(&self, alloc: Global, value: &Value) -> Result<Verdict, AllocError>
         ensures { IfOk result (λ x. IsFlatJudged (reader_closed self.now) (reader_flats self.now) (view value.now) (verdict_view x)) }
     {
         match refused(alloc, self.closed, &self.fields, value)? {

@@ -7,13 +7,12 @@ mod judge;
 mod note;
 mod outcome;
 mod report;
-#[cfg(test)]
-mod tests;
 mod top;
 mod words;
 
 pub use examination::examine;
-pub use judge::Verdict;
+pub use item::root_item;
+pub use judge::{ReadBackFault, Reader, Verdict};
 pub use note::{Note, NoteKind, Way};
 pub use outcome::Outcome;
 pub use report::Report;

@@ -1,11 +1,11 @@
 //! The run of the program, over any source, sink and judge of texts.
-ghost use Rattle.std.specs.Prelude.{◌≡◌, ◌≢◌, ◌≤◌, ◌↔◌, ◌⊎◌, false, ℕ, List, [], map, length, Some, None, IsTrue, string_bytes};
+ghost use Rattle.std.specs.Prelude.{◌≡◌, ◌≢◌, ◌≤◌, ◌↔◌, ◌⊎◌, false, ℕ, List, [], map, length, Some, None, string_bytes};
 ghost use Rattle.serde_json.specs.View.{view};
 ghost use Rattle.run_io.specs.Bytes.{Rises};
 ghost use Rattle.schema_defs.specs.Texts.{Relations};
-ghost use Rattle.schema_tree.specs.Fault.{FaultD, fault_view, memory};
-ghost use Rattle.run_input.specs.Input.{Parts, IsInput, data_of, limit};
-ghost use Rattle.typify_run.specs.Outcome.{Answers, Ends, EndsReading, IsBare, IsCauseIn, IsCaused, IsCutShort, IsFaultPrinted, IsMemorySpent, IsNoInput, IsPrinting, IsReportPrinted, IsReported, IsWritingCut, is_built};
+ghost use Rattle.schema_tree.specs.Fault.{FaultD, fault_view};
+ghost use Rattle.run_input.specs.Input.{Parts, IsInput, IsNoInput, data_of, limit};
+ghost use Rattle.typify_run.specs.Outcome.{Answers, Ends, EndsReading, IsBare, IsCauseIn, IsCaused, IsCutShort, IsFaultPrinted, IsMemorySpent, IsPrinting, IsReportPrinted, IsReported, IsWritingCut, is_built};
 ghost use Rattle.typify_run.specs.Page.{ArePrintable};
 ghost use Rattle.typify_run.specs.Verdict.{verdict_view};
 ghost use Rattle.typify_run.specs.Words.{check_depth};
@@ -42,17 +42,6 @@ fn print_report<K: Sink>(alloc: Global, report: Report, sink: &mut K) -> Outcome
             fault: None,
         },
         Err(SinkFault::Memory) => Outcome::bare(6),
-    }
-}
-
-// Whether memory ran out.
-fn is_memory(fault: &Fault) -> bool
-    ensures yes { IsTrue result → fault_view fault.now ≡ memory }
-    ensures no { fault_view fault.now ≡ memory → IsTrue result }
-{
-    match fault {
-        Fault::Memory => true,
-        _ => false,
     }
 }
 
@@ -97,7 +86,7 @@ fn run_parts<K: Sink, T: Texts>(
     match examine(alloc, schema, depth, values, texts) {
         Ok(report) => print_report(alloc, report, sink),
         Err(fault) => {
-            if is_memory(&fault) {
+            if fault.is_memory() {
                 Outcome::bare(6)
             } else {
                 print_fault(alloc, fault, sink)

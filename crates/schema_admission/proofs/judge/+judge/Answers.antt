@@ -1,13 +1,13 @@
-use Rattle.std.proofs.Common.{◌≡◌, ◌&&◌, ◌||◌, ◌≤◌, ◌+◌, suc, sym, ap, ◌∙◌, refl, arith, rules, length, drop, option_map}
+use Rattle.std.proofs.Common.{◌≡◌, ◌&&◌, ◌||◌, ◌≤◌, ◌+◌, suc, sym, ap, ◌∙◌, refl, arith, rules, length, drop, option_map, map, not, bytes_eq, string_bytes}
 use Rattle.std.specs.Prelude.{nat_lt, ◌==◌, if◌then◌else◌}
 use Rattle.std.specs.Option.{option_copied}
-use Rattle.std.specs.List.{list_all}
+use Rattle.std.specs.List.{list_all, list_any}
 use Rattle.serde_json.specs.View.{items_view as items_seen, members_view as members_seen}
 use Rattle.json_value.specs.Value.{value_size, items_size, members_size, text as text_value}
 use Rattle.json_value.specs.View.{items_of, members_of}
 use Rattle.schema_defs.specs.Schema.{schemas}
-use Rattle.schema_defs.specs.Layer.{parts_agree as parts_say, patterns_agree as patterns_say, contains_agrees as contains_says, items_agree as items_say, maybe, has_any}
-use Rattle.schema_defs.specs.Admits.{admits, admits_with, allowed, parts_of, item_judges, member_judges}
+use Rattle.schema_defs.specs.Layer.{property_at, parts_agree as parts_say, patterns_agree as patterns_say, contains_agrees as contains_says, items_agree as items_say, maybe, has_any}
+use Rattle.schema_defs.specs.Admits.{counts_as_absent, admits, admits_with, allowed, parts_of, item_judges, member_parts}
 use Rattle.schema_types.specs.declared.schema.Subschemas.{out-Subschemas}
 use Rattle.schema_types.specs.declared.schema.ArrayValidation.{out-ArrayValidation}
 use Rattle.schema_types.specs.declared.schema.ObjectValidation.{out-ObjectValidation}
@@ -15,12 +15,12 @@ use Rattle.schema_types.specs.View.{kept_view, schema_view, object_view, maybe_v
 use Rattle.schema_types.specs.DocumentView.{document_view}
 use Rattle.schema_admission.specs.declared.wanted.Wanted.TheVariants.{Any, One}
 use Rattle.schema_admission.specs.Sizes.{schema_size, maybe_size, maybes_size, same_size, document_size, schemas_size, places_size, lists_size, named_size, properties_size}
-use Rattle.schema_admission.specs.Judging.{reference_agrees, same_agrees, list_agrees as list_says, negation_agrees, admitted_count, admitting_count, maybe_seen, named_member, rules_part, places_from}
+use Rattle.schema_admission.specs.Judging.{reference_agrees, same_agrees, list_agrees as list_says, negation_agrees, admitted_count, admitting_count, maybe_seen, member_part, named_member, rules_part, places_from}
 use Rattle.schema_admission.proofs.Order.{by_value, by_references, by_schema, by_rank}
 use Rattle.schema_admission.proofs.Measure.{work}
 use Rattle.schema_admission.proofs.Views.{plain_of, same_part, lists_part, named_part, object_size, judged-out, same-out, same_small, lists-out, array_small, members_small, object_less, one_less, one_there, many_less, items_counted, member-out, list_small, list_there}
 use Rattle.schema_admission.proofs.Turns.{schemas_turn, items_turn, schemas_end, count_step, count_within, finished, enough, some_is_count, each_is_count, places_start, place_small}
-use Rattle.schema_admission.proofs.Members.{found_at, given_at, property_small, unless_small, unless_maybe, both_hold, first_fails}
+use Rattle.schema_admission.proofs.Members.{given_at, property_small, unless_small, unless_maybe, both_hold, first_fails}
 use Rattle.schema_admission.proofs.Parts.{array_size, object_size as members_less, target_size, anew_admits, named_split}
 use Rattle.schema_admission.proofs.judge.+judge.Goals as goal
 
@@ -297,7 +297,7 @@ members_agree-returns-clause-answer g t c =
     let n = members_view c.args.object.now in
     let says = named_member r d n in
     let ms = members_of (members_seen c.args.members.now.entries) in
-    let done = c.loop-name.invariant.judged ∙ ap (λ es. list_all says (member_judges r d (members_of (members_seen es)))) c.in-None.ensures.steps.0 in
+    let done = c.loop-name.invariant.judged ∙ ap (λ es. list_all says (member_parts r d (members_of (members_seen es)))) c.in-None.ensures.steps.0 in
     both_hold _ _ done (sym c.rules_agree.ensures ∙ c.if-not-rules_agree.false) ∙ sym (named_split r d ms n)
 
 pub members_agree-returns-then-not-branch-clause-answer : goal.members_agree-returns-then-not-branch-clause-answer
@@ -308,9 +308,9 @@ members_agree-returns-then-not-branch-clause-answer g t c =
     let says = named_member r d n in
     let ms = members_of (members_seen c.args.members.now.entries) in
     let v = kept_view c.in-Some.value.now in
-    let said = c.in_ok-member_agrees.ensures.answer ∙ ap (λ q. named_member q d n (c.deref.result.now, admits q d v)) c.loop-name.invariant.keeps ∙ ap (λ k. says (k, admits r d v)) c.deref.ensures in
-    let rest = list_all says (member_judges r d (members_of (members_seen c.next.new.self))) in
-    let fails = c.loop-name.invariant.judged ∙ ap (λ es. list_all says (member_judges r d (members_of (members_seen es)))) c.in-Some.ensures.steps ∙ ap (λ b. b && rest) (sym said ∙ c.if-not-branch.true) in
+    let said = c.in_ok-member_agrees.ensures.answer ∙ ap (λ q. named_member q d n (member_part q d c.deref.result.now v)) c.loop-name.invariant.keeps ∙ ap (λ k. says (member_part r d k v)) c.deref.ensures in
+    let rest = list_all says (member_parts r d (members_of (members_seen c.next.new.self))) in
+    let fails = c.loop-name.invariant.judged ∙ ap (λ es. list_all says (member_parts r d (members_of (members_seen es)))) c.in-Some.ensures.steps ∙ ap (λ b. b && rest) (sym said ∙ c.if-not-branch.true) in
     first_fails _ (rules_part ms n) fails ∙ sym (named_split r d ms n)
 
 pub member_agrees-maybe_agrees-requires : goal.member_agrees-maybe_agrees-requires
@@ -319,8 +319,8 @@ member_agrees-maybe_agrees-requires g t c =
     let e : work d (1 + value_size (kept_view c.args.value.now)) (allowed d) (document_size d) 5 ≡ t = c.requires.1.0 in
     let o = out-ObjectValidation c.args.object.now in
     let sizes = members_small c.args.object.now in
-    let found = ap maybe_seen c.get-property.ensures.value ∙ found_at c.args.name.now o.properties.entries in
-    λ κs within. (by_rank _ _ _ _ _ _ _ _ _ _ _ e (omega arith) (omega arith) (omega arith) (omega arith), (within, omega (arith, ap maybe_size found, property_small c.args.name.now (properties_view o.properties.entries), sizes)))
+    let property = property_at c.args.name.now (properties_view o.properties.entries) in
+    λ κs within. (by_rank _ _ _ _ _ _ _ _ _ _ _ e (omega arith) (omega arith) (omega arith) (omega arith), (within, omega (arith, ap maybe_size c.property_unless-property.ensures, unless_small c.is_passed_over-passed.result property, property_small c.args.name.now (properties_view o.properties.entries), sizes)))
 
 pub member_agrees-patterns_agree-requires : goal.member_agrees-patterns_agree-requires
 member_agrees-patterns_agree-requires g t c =
@@ -356,12 +356,14 @@ member_agrees-returns-clause-answer g t c =
     let j = admits r d v in
     let props = properties_view o.properties.entries in
     let patterns = properties_view o.pattern_properties.entries in
-    let found = ap maybe_seen c.get-property.ensures.value ∙ found_at n o.properties.entries in
+    let required = map string_bytes o.required.keys in
+    let passed_over = c.is_passed_over-passed.ensures ∙ ap (λ s. counts_as_absent s v && not (list_any (bytes_eq n) required)) c.setting.ensures in
     let first = c.in_ok-by_name.ensures.keeps in
     let second = c.in_ok-by_pattern.ensures.keeps ∙ first in
     let third = c.in_ok-matched.ensures.keeps ∙ second in
     let fourth = c.in_ok-by_rest.ensures.keeps ∙ third in
-    let by_name = c.in_ok-by_name.ensures.answer ∙ ap (maybe j) found in
+    let by_name = c.in_ok-by_name.ensures.answer ∙ ap (maybe j) c.property_unless-property.ensures
+    ∙ unless_maybe c.is_passed_over-passed.result j (property_at n props) ∙ ap (λ b. b || maybe j (property_at n props)) passed_over in
     let by_pattern = c.in_ok-by_pattern.ensures.answer ∙ ap (λ q. patterns_say (λ p. q.matches p n) (admits q d v) patterns) first in
     let matched = c.in_ok-matched.ensures.answer ∙ ap (λ q. has_any (λ p. q.matches p n) patterns) second in
     let passed = c.either.ensures ∙ (λ i. (c.contains_key-is_named.ensures ∙ given_at n o.properties.entries) i || matched i) in
@@ -369,7 +371,7 @@ member_agrees-returns-clause-answer g t c =
     ∙ unless_maybe c.either.result j (maybe_view o.additional_properties) ∙ ap (λ b. b || maybe j (maybe_view o.additional_properties)) passed in
     let by_names = c.in_ok-by_names.ensures.answer ∙ ap (λ q. maybe (admits q d (kept_view c.in_ok-text.text)) (maybe_seen (option_copied c.unless-names.result))) fourth
     ∙ ap (λ x. maybe (admits r d x) (maybe_seen (option_copied c.unless-names.result))) c.in_ok-text.ensures.answer ∙ ap (maybe (admits r d (text_value n))) c.unless-names.ensures in
-    c.all_of.ensures ∙ (λ i. by_name i && by_pattern i && by_rest i && by_names i) ∙ sym (member-out r d c.args.object.now n j)
+    c.all_of.ensures ∙ (λ i. by_name i && by_pattern i && by_rest i && by_names i) ∙ sym (member-out r d c.args.object.now (member_part r d n v))
 
 pub not_agrees-judge-requires : goal.not_agrees-judge-requires
 not_agrees-judge-requires g t c =

@@ -5,7 +5,7 @@ use Rattle.json_value.specs.Value.{value_size, items_size, members_size}
 use Rattle.json_value.specs.View.{items_of, members_of}
 use Rattle.schema_defs.specs.Schema.{schemas}
 use Rattle.schema_defs.specs.Layer.{Judge, by_places as by_places_in, patterns_agree as patterns_say}
-use Rattle.schema_defs.specs.Admits.{admits as admits_in, item_judges, member_judges}
+use Rattle.schema_defs.specs.Admits.{admits as admits_in, item_judges, member_parts}
 use Rattle.schema_types.specs.View.{kept_view, schema_view, object_view, schemas_view, maybe_view, maybe_list_view, subschemas_view, same_of, members_view, properties_view}
 use Rattle.schema_types.specs.DocumentView.{document_view}
 use Rattle.schema_admission.specs.Sizes.{schema_size, schemas_size, maybe_size, maybes_size, same_size, properties_size}
@@ -112,7 +112,7 @@ invariant-members_agree-loop-name g l =
     let says = named_member r d (members_view l.object) in
     let rest = members_of (members_seen l.name-iterator) in
     let whole = members_of (members_seen l.members.entries) in record {
-      judged : list_all says (member_judges r d whole) ≡ list_all says (member_judges r d rest);
+      judged : list_all says (member_parts r d whole) ≡ list_all says (member_parts r d rest);
       small : members_size rest ≤ members_size whole;
       keeps : g.T.Texts.relations l.texts ≡ r;
       counts : g.T.Texts.faults l.initial.texts ≤ g.T.Texts.faults l.texts;

@@ -1,0 +1,47 @@
+//! Schemas, values, and which of the values each schema admits. Each line of standard input is one JSON object of a schema and
+//! values; it is printed again, with `admitted` or `refused` behind it for each value, or with its fault.
+#![tactic(auto)]
+
+use run_input::input_parts;
+use schema_admission::admits;
+use schema_reading::document;
+use schema_tree::{PlainTexts, TextFault};
+use schema_types::{Document, Setting};
+use serde_json::Value;
+use std::alloc::{AllocError, Global};
+
+fn main(rt: HostRuntime) -> Result<(), anyhow::Error> {
+    for line in rt.lines(rt.alloc()) {
+        let line = line?;
+        let found = answer(rt.alloc(), &line)?;
+        println!(rt; "{line} =>{found}")?;
+    }
+    Ok(())
+}
+
+fn answer(alloc: Global, line: &str) -> Result<String, AllocError> {
+    let Ok(value) = Value::from_str(alloc, line) else {
+        return String::from_str(alloc, "no JSON");
+    };
+    let Some(parts) = input_parts(&value) else {
+        return String::from_str(alloc, "no case");
+    };
+    let Some(document) = document(alloc, parts.schema, Setting::Strict)? else {
+        return String::from_str(alloc, "no document");
+    };
+    let mut shown = String::new(alloc);
+    for value in parts.values {
+        shown.push_str(verdict(alloc, &document, value)?)?;
+    }
+    Ok(shown)
+}
+
+fn verdict(alloc: Global, document: &Document, value: &Value) -> Result<&'static str, AllocError> {
+    let mut texts = PlainTexts::new(alloc);
+    match admits(alloc, document, &mut texts, value) {
+        Ok(true) => Ok(" admitted"),
+        Ok(false) => Ok(" refused"),
+        Err(TextFault::Failed) => Ok(" failed"),
+        Err(TextFault::Memory) => Err(AllocError),
+    }
+}

@@ -1,0 +1,81 @@
+//! The longest input, and the judge alone.
+use run_io::{PlainSink, PlainSource};
+use schema_tree::{PlainTexts, read_form};
+use serde_json::Value;
+use std::alloc::{AllocError, Global};
+use std::test::Fail;
+use typify_run::{Reader, root_item, run};
+
+const SCHEMA: &str =
+    r#"{"type":"object","properties":{"id":{"type":"integer"},"name":{"type":"string"}},"required":["id","name"],"additionalProperties":false}"#;
+
+const VALUES: &str = r#"[{"id":1,"name":"a"},{"id":1,"name":"a","x":0},{"id":1}]"#;
+
+// An input of a schema and values.
+fn input_of(alloc: Global, schema: &str, values: &str) -> Result<String, AllocError> {
+    format!(in alloc; "{{\"schema\":{schema},\"values\":{values}}}")
+}
+
+// Words, each after a blank but the first.
+fn words_of(alloc: Global, line: &str) -> Result<Vec<String>, AllocError> {
+    let mut words = Vec::new(alloc);
+    for word in line.split(' ') {
+        words.push(String::from_str(alloc, word)?)?;
+    }
+    Ok(words)
+}
+
+// How a run ended: its status, a blank, and what it wrote.
+fn ended(alloc: Global, status: u8, written: &[u8]) -> Result<String, AllocError> {
+    let text = String::from_utf8_lossy(alloc, written)?;
+    format!(in alloc; "{status} {text}")
+}
+
+// A run that nothing disturbs.
+fn plain_run(alloc: Global, line: &str, input: &str) -> Result<String, AllocError> {
+    let words = words_of(alloc, line)?;
+    let mut source = PlainSource::new(Vec::from_slice(alloc, input.as_bytes())?);
+    let mut sink = PlainSink::new(alloc);
+    let mut texts = PlainTexts::new(alloc);
+    let outcome = run(alloc, &words, &mut source, &mut sink, &mut texts);
+    ended(alloc, outcome.status, sink.written())
+}
+
+#[test]
+fn an_input_has_a_limit(rt: HostRuntime) -> Result<(), Fail> {
+    let input = input_of(rt.alloc(), SCHEMA, VALUES)?;
+    for (length, want) in [(16_777_216usize, "0 "), (16_777_217, "3 ")] {
+        let mut text = String::from_str(rt.alloc(), &input)?;
+        for _ in text.len()..length {
+            text.push(' ')?;
+        }
+        let got = plain_run(rt.alloc(), "check 8", &text)?;
+        assert!(rt; got.starts_with(want));
+    }
+    Ok(())
+}
+
+#[test]
+fn an_item_without_its_attribute_is_open(rt: HostRuntime) -> Result<(), Fail> {
+    let alloc = rt.alloc();
+    let (Ok(schema), Ok(value)) = (
+        Value::from_str(alloc, SCHEMA),
+        Value::from_str(alloc, r#"{"id":1,"name":"a","x":0}"#),
+    ) else {
+        return Err(Fail::new("the test has no item"));
+    };
+    let Ok(Some(fields)) = read_form(alloc, &schema) else {
+        return Err(Fail::new("the test has no item"));
+    };
+    let mut item = root_item(alloc, &fields)?;
+    let Ok(closed) = Reader::read_back(alloc, &item) else {
+        return Err(Fail::new("the test has no item"));
+    };
+    assert!(rt; closed.judge(alloc, &value)?.taken().is_none());
+    item.attrs = Vec::new(alloc);
+    let Ok(open) = Reader::read_back(alloc, &item) else {
+        return Err(Fail::new("the test has no item"));
+    };
+    assert!(rt; open.judge(alloc, &value)?.taken().is_some());
+    Ok(())
+}

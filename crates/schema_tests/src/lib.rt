@@ -1,0 +1,17 @@
+//! Tests of schemas and documents that are no table of texts: each public call once, and large documents.
+#![tactic(auto)]
+
+#[cfg(test)]
+mod documents;
+#[cfg(test)]
+mod graphs;
+#[cfg(test)]
+mod guards;
+#[cfg(test)]
+mod large;
+#[cfg(test)]
+mod reading;
+#[cfg(test)]
+mod tree;
+#[cfg(test)]
+mod types;
