@@ -1,0 +1,88 @@
+-- Worked documents: the named entries of the root and the definitions.
+use Rattle.std.specs.Prelude.{◌≡◌, ℕ, ◌&&◌, ◌||◌, not, nat_le, List, [], ◌∷◌, Bool, true, false, Option, Some, None, option_map, codes}
+use Prim.Native.String.{String}
+use Rattle.std.specs.List.{list_all}
+use Rattle.json_value.specs.Value.{Value}
+use Rattle.schema_defs.specs.declared.Setting.TheVariants.{Strict}
+use Rattle.schema_defs.specs.Read.{document_of}
+use Rattle.schema_defs.specs.Build.{num, sample}
+use Rattle.model_defs.specs.Model.{external_tag, internal_tag, adjacent_tag, text_rule}
+use Rattle.entry_defs.specs.Entry.{u8, u32, i64, nonzero_u8, definition, State, required, optional, stated, Entry, boolean_entry, integer_entry, text_entry, unit_entry, option_entry, vec_entry, set_entry, tuple_entry, reference, item, Entries, entries, Shape, struct_shape, enum_shape, newtype_shape, no_rest, rest, Fields, no_fields, field_then, Variants, no_variants, variant_then, Contents, unit_contents, newtype_contents, tuple_contents, struct_contents}
+use Rattle.entry_defs.specs.Table.{TargetEntry, Table, root_of}
+use Rattle.convert_defs.specs.Convert.{table_of}
+use Rattle.naming_defs.specs.Names.{named_table, is_among}
+use Rattle.convert_defs.specs.Worked.{constant_text, tag_alone, row_1, row_2c, row_3, row_4, row_a, row_5, row_6a, row_8, row_9, row_b, row_11, row_14, row_16b, row_18, row_22a, row_22b, row_c}
+
+-- letters, digits and `_`, no digit first, and no word of Rust's own that the examples hold
+abbrev pub is_start : ℕ → Bool
+is_start c = (nat_le 65 c && nat_le c 90) || (nat_le 97 c && nat_le c 122) || (nat_le 95 c && nat_le c 95)
+
+abbrev pub is_part : ℕ → Bool
+is_part c = is_start c || (nat_le 48 c && nat_le c 57)
+
+abbrev pub is_good : List ℕ → Bool
+is_good [] = false
+is_good (c ∷ cs) = is_start c && list_all is_part cs && not (is_among (c ∷ cs) (codes "type" ∷ codes "i64" ∷ codes "Self" ∷ codes "_" ∷ []))
+
+abbrev pub named_of : Value → Option Table
+named_of s = option_map (λ d. named_table is_good (table_of sample d 8)) (document_of Strict s)
+
+abbrev pub root_named : Value → Option Entry
+root_named s = option_map root_of (named_of s)
+
+abbrev pub targets_named : Value → Option (List TargetEntry)
+targets_named s = option_map (λ t. t.targets) (named_of s)
+
+abbrev pub field : String → Entry → State → Fields → Fields
+field n e s fs = field_then (codes n) (codes n) e s fs
+
+abbrev pub variant : String → Contents → Variants → Variants
+variant n c ws = variant_then (codes n) (codes n) c ws
+
+abbrev pub the : String → Shape → Entry
+the n h = item (codes n) h
+
+abbrev pub defined : String → String → Shape → TargetEntry
+defined k n h = record { target = definition (codes k); led_to = record { name = codes n; shape = h } }
+
+abbrev pub whole : Entry
+whole = integer_entry i64
+
+abbrev pub word : Entry
+word = integer_entry u32
+
+abbrev pub pair : Entries → Contents
+pair es = tuple_contents es
+
+pub record WorkedEntries : Type 0 where
+  pub constant : root_named constant_text ≡ Some (the "Root" (enum_shape false external_tag (variant "a" unit_contents no_variants)))
+  pub adjacent : root_named tag_alone ≡ Some (the "Root" (enum_shape false (adjacent_tag (codes "t") (codes "c")) (variant "x" (newtype_contents whole) (variant "y" unit_contents no_variants))))
+  pub closed_object : root_named row_1 ≡ Some (the "Root" (struct_shape true (field "id" whole required (field "name" text_entry required no_fields)) no_rest))
+  pub set : root_named row_2c ≡ Some (set_entry whole)
+  pub no_members : root_named row_3 ≡ Some (the "Root" (struct_shape true no_fields no_rest))
+  pub optional_text : root_named row_4 ≡ Some (the "Root" (struct_shape false (field "s" text_entry optional no_fields) no_rest))
+  pub a_rest : root_named row_a ≡ Some (the "Root" (struct_shape false (field "a" boolean_entry optional no_fields) (rest (codes "extra") whole)))
+  pub nullable : root_named row_5 ≡ Some (the "Root" (struct_shape false (field "s" (option_entry text_entry) required no_fields) no_rest))
+  pub pair_of_integers : root_named row_6a ≡ Some (tuple_entry (entries (whole ∷ integer_entry u8 ∷ [])))
+  pub nonzero : root_named row_8 ≡ Some (integer_entry nonzero_u8)
+  pub by_greatest : root_named row_9 ≡ Some (integer_entry u8)
+  pub ruled_text : root_named row_b ≡ Some (the "Root" (newtype_shape text_entry (Some (text_rule (record { least = None; most = Some 1; all = codes "a" ∷ []; any = [] })))))
+  pub external : root_named row_11 ≡ Some (the "Root" (enum_shape true external_tag
+      (variant "Alpha" unit_contents
+      (variant "Bravo" (struct_contents (field "beeBee" text_entry required (field "fooFoo" text_entry required no_fields)))
+      (variant "Charlie" (newtype_contents (vec_entry word))
+      (variant "Delta" (tuple_contents (entries (word ∷ text_entry ∷ [])))
+      (variant "Echo" (tuple_contents (entries (option_entry text_entry ∷ text_entry ∷ text_entry ∷ []))) no_variants)))))))
+  pub internal : root_named row_14 ≡ Some (the "Root" (enum_shape true (internal_tag (codes "k")) (variant "a" unit_contents (variant "b" unit_contents no_variants))))
+  pub a_reference : root_named row_16b ≡ Some (reference (definition (codes "A")))
+  pub recursive : targets_named row_16b ≡ Some (defined "A" "A" (struct_shape false (field "next" (reference (definition (codes "A"))) optional no_fields) no_rest) ∷ [])
+  pub renamed : root_named row_18 ≡ Some (the "Root" (struct_shape false
+      (field_then (codes "field0") (codes "a b") (reference (definition (codes "X"))) required
+      (field_then (codes "field1") (codes "type") (reference (definition (codes "i64"))) required no_fields)) no_rest))
+  pub named_first : targets_named row_18 ≡ Some (
+      defined "PhantomData" "PhantomData" (newtype_shape text_entry None)
+      ∷ defined "X" "X" (newtype_shape (reference (definition (codes "PhantomData"))) None)
+      ∷ defined "i64" "Type0" (newtype_shape whole None) ∷ [])
+  pub null_alone : root_named row_22a ≡ Some unit_entry
+  pub never : root_named row_22b ≡ Some (the "EmptyAnyOf" (enum_shape false external_tag no_variants))
+  pub stated_default : root_named row_c ≡ Some (the "Root" (struct_shape false (field "n" whole (stated (num 7)) (field "t" (vec_entry text_entry) optional no_fields)) no_rest))

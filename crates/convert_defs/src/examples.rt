@@ -1,0 +1,36 @@
+//! Worked examples: each group is the contract of a function that does nothing.
+
+ghost use Rattle.convert_defs.specs.Entries.{WorkedEntries};
+ghost use Rattle.convert_defs.specs.Pages.{FirstPages, SecondPages};
+ghost use Rattle.convert_defs.specs.WorkedFaults.{WorkedFaults};
+ghost use Rattle.convert_defs.specs.Worked.{WorkedVerdicts, WorkedNotes};
+
+/// Which values the entries of worked documents take.
+pub fn worked_verdicts()
+    ensures { WorkedVerdicts }
+{}
+
+/// Which notes worked documents have.
+pub fn worked_notes()
+    ensures { WorkedNotes }
+{}
+
+/// The named entries of worked documents.
+pub fn worked_entries()
+    ensures { WorkedEntries }
+{}
+
+/// Worked documents that are not converted, and the places of conversion trees.
+pub fn worked_faults()
+    ensures { WorkedFaults }
+{}
+
+/// Documents that tell readings of the rows apart, and what is told of each.
+pub fn first_pages()
+    ensures { FirstPages }
+{}
+
+/// More of them.
+pub fn second_pages()
+    ensures { SecondPages }
+{}

@@ -1,0 +1,11 @@
+pub mod Entry
+pub mod Layer
+pub mod Table
+pub mod Takes
+pub mod Reach
+pub mod Examples
+pub mod Rows
+pub mod Members
+pub mod Sound
+pub mod Ends
+pub mod Space

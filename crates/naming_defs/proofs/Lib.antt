@@ -1,0 +1,9 @@
+pub mod Bare
+pub mod Takes
+pub mod Meaning
+pub mod Free
+pub mod Fresh
+pub mod Kept
+pub mod Acyclic
+pub mod Sound
+pub mod Good
