@@ -9,7 +9,7 @@ use Rattle.schema_defs.specs.Walks.{IsGuarded, IsLoop}
 use Rattle.schema_faults.specs.Faults.{first, malformed_places, bad_references, float_places, is_internal}
 use Rattle.schema_guards.specs.Targets.{BeginsFirst}
 use Rattle.schema_types.specs.DocumentView.{document_view}
-use Rattle.schema_tree.specs.declared.document.Document.{Document}
+use Rattle.schema_tree.specs.declared.guarded.Document.{Document}
 use Rattle.schema_tree.specs.Fault.{FaultD, memory, malformed, missing_ref, external_ref, unguarded, float}
 
 -- the setting, the root, and the definitions by name

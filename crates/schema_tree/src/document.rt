@@ -6,6 +6,7 @@ ghost use Rattle.schema_defs.specs.Admits.{defined, target as target_of};
 ghost use Rattle.schema_defs.specs.Children.{schema_at as schema_at_of};
 ghost use Rattle.schema_defs.specs.Laws.{NamesRise};
 ghost use Rattle.schema_defs.specs.Read.{document_of};
+ghost use Rattle.schema_defs.specs.Walks.{IsGuarded};
 ghost use Rattle.schema_faults.specs.Faults.{is_internal};
 ghost use Rattle.schema_types.specs.DocumentView.{document_view};
 ghost use Rattle.schema_types.specs.View.{schema_view};
@@ -13,6 +14,7 @@ ghost use Rattle.schema_tree.specs.Document.{IsReadAs, IsReadable, IsRefusal, Is
 ghost use Rattle.schema_tree.specs.Fault.{external_ref, fault_view, missing_ref};
 
 use crate::fault::Fault;
+use crate::guarded::Document;
 use schema_faults::{
     Place, first_bad_reference, first_float, first_malformed, is_internal_reference,
 };
@@ -21,13 +23,6 @@ use schema_reading::document;
 use schema_types::{Location, Names, Schema, Setting};
 use serde_json::Value;
 use std::alloc::{AllocError, Global};
-
-/// A schema document that was read (JSON Schema Draft 7, in the profile that is read): each reference leads to the root
-/// or to a definition, and no references at one value lead back to where they began.
-#[derive(Drop)]
-pub struct Document {
-    parts: schema_types::Document,
-}
 
 impl Document {
     /// The document that a JSON value is, under the setting `Strict`. Refused, in this order, are a keyword that holds what
@@ -100,9 +95,11 @@ impl Document {
         self.parts.target(reference)
     }
 
-    /// The root and the definitions, as they stand in the value. It takes no memory.
+    /// The root and the definitions, as they stand in the value; no references at one value lead back to where they began.
+    /// It takes no memory.
     pub fn parts(&self) -> &schema_types::Document
-        ensures { document_view result.now ≡ document_seen self.now }
+        ensures document { document_view result.now ≡ document_seen self.now }
+        ensures guarded { IsGuarded (document_view result.now) }
     {
         &self.parts
     }

@@ -6,15 +6,16 @@ mod conversions;
 mod document;
 mod fault;
 mod form;
+mod guarded;
 mod name;
 mod number;
 mod print;
 mod wide;
 
 pub use conversions::{Constraint, Conversions, Rule};
-pub use document::Document;
 pub use fault::{Fault, InvalidKind, UnsupportedKind};
 pub use form::{FlatField, FlatKind, read_form};
+pub use guarded::Document;
 pub use json_value::is_whole;
 pub use name::is_kept_name;
 pub use number::{holds_i64_alone, i64_alone_has_no_float};

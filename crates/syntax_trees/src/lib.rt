@@ -5,6 +5,7 @@ mod copy;
 mod copy_item;
 mod cursor;
 mod item;
+mod lifetime;
 mod tree;
 
 pub use cursor::{MetaCursor, SyntaxError, SyntaxKind};
