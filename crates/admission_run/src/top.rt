@@ -12,7 +12,7 @@ ghost use Rattle.admission_run.specs.Outcome.{Ends, IsLineOf, IsPageOf, IsTextOf
 use crate::judging::verdicts;
 use crate::lines::page;
 use crate::outcome::Outcome;
-use run_input::{LIMIT, input_parts};
+use run_input::{InputError, LIMIT, input_parts, input_value};
 use run_io::{InputFault, Sink, SinkFault, Source, put, read_input};
 use schema_tree::{Fault, Setting, Texts};
 use serde_json::Value;
@@ -88,10 +88,10 @@ fn run_bytes<K: Sink, T: Texts>(
     ensures ends { Ends setting (T.relations texts.old) (T.faults texts.old) (T.faults texts.new) bytes.now (K.written sink.old) (K.written sink.new) result }
     ensures write_fault { result ≡ Outcome.WriteFault → Rises (K.faults sink.old) (K.faults sink.new) }
 {
-    let value = match Value::from_slice(alloc, bytes) {
+    let value = match input_value(alloc, bytes) {
         Ok(value) => value,
-        Err(error) if error.is_memory() => return Outcome::Memory,
-        Err(_) => return Outcome::NoInput,
+        Err(InputError::Memory) => return Outcome::Memory,
+        Err(InputError::NotJson) => return Outcome::NoInput,
     };
     match input_parts(&value) {
         Some(parts) => run_parts(alloc, parts.schema, parts.values, sink, texts, setting),

@@ -1,15 +1,12 @@
--- The input: at most 16,777,216 bytes that are JSON (RFC 8259, as `serde_json` reads it), an object with exactly the members `schema` and `values`, the latter a list.
+-- The input: at most 16,777,216 bytes that are JSON (RFC 8259, as `serde_json` reads it, once numbers that are whole are written as integers), an object with exactly the members `schema` and `values`, the latter a list.
 use Rattle.std.specs.Prelude.{◌≡◌, ◌≤◌, ℕ, ◌&&◌, List, [], ◌∷◌, length, Bool, Option, Some, None, IsUtf8, bytes_eq, codes, if◌then◌else◌}
 use Rattle.serde_json.specs.Data.{Data, object, array, Items, no_items, item, member, no_members}
 use Rattle.serde_json.specs.Read.{read as read_text}
+use Rattle.whole_numbers.specs.Whole.{whole}
 
 -- the most bytes of an input
 abbrev pub limit : ℕ
 limit = 16777216
-
--- how the bytes are rewritten before they are read: not at all
-abbrev pub whole : List ℕ → List ℕ
-whole bytes = bytes
 
 pub record Parts : Type 0 where
   pub schema : Data

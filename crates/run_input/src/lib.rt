@@ -1,11 +1,15 @@
 //! The input of a run: one JSON object with exactly the members `schema` and `values`.
 #![tactic(auto)]
 
-ghost use Rattle.std.specs.Prelude.{◌≡◌, option_map};
+ghost use Rattle.std.specs.Prelude.{◌≡◌, IfOk, IfErr, Some, IsUtf8, option_map};
+ghost use Rattle.serde_json.specs.Read.{read as read_text};
 ghost use Rattle.serde_json.specs.View.{view, items_view};
-ghost use Rattle.run_input.specs.Input.{limit, parts_of};
+ghost use Rattle.whole_numbers.specs.Whole.{whole};
+ghost use Rattle.run_input.specs.Input.{IsNoInput, limit, parts_of};
 
 use serde_json::Value;
+use std::alloc::Global;
+use whole_numbers::whole_numbers;
 
 /// The most bytes of an input.
 pub const LIMIT: usize = 16_777_216;
@@ -15,6 +19,30 @@ pub const LIMIT: usize = 16_777_216;
 pub struct InputParts<'a> {
     pub schema: &'a Value,
     pub values: &'a Vec<Value>,
+}
+
+/// Why bytes give no value.
+#[derive(Clone, Copy, PartialEq, Eq, Debug)]
+pub enum InputError {
+    /// They are not JSON (RFC 8259) in UTF-8.
+    NotJson,
+    /// Memory ran out.
+    Memory,
+}
+
+/// The JSON value of bytes, in which each number that is whole is first written as an integer: `1.0` is 1.
+pub fn input_value(alloc: Global, bytes: &[u8]) -> Result<Value, InputError>
+    ensures value { IfOk result (λ v. IsUtf8 (whole bytes.now) × (read_text (whole bytes.now) ≡ Some (view v))) }
+    ensures no_input { IfErr result (λ e. e ≡ InputError.NotJson → IsNoInput bytes.now) }
+{
+    let Ok(rewritten) = whole_numbers(alloc, bytes) else {
+        return Err(InputError::Memory);
+    };
+    match Value::from_slice(alloc, &rewritten) {
+        Ok(value) => Ok(value),
+        Err(error) if error.is_memory() => Err(InputError::Memory),
+        Err(_) => Err(InputError::NotJson),
+    }
 }
 
 /// The parts of an input: of an object with exactly the members `schema` and `values`, the latter a list.

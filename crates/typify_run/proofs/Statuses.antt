@@ -6,7 +6,7 @@ use Rattle.json_value.specs.View.{value_of}
 use Rattle.schema_tree.specs.Fault.{FaultD}
 use Rattle.schema_tree.specs.declared.fault.Fault.{Fault}
 use Rattle.run_input.specs.Input.{Parts, IsInput, data_of, parts_of, IsNoInput}
-use Rattle.typify_run.specs.Outcome.{Answers, EndsReading, IsBare, IsCauseIn, IsCutShort, IsFaultPrinted, IsMemorySpent, IsReportPrinted, IsReported, IsWritingCut, is_built}
+use Rattle.typify_run.specs.Outcome.{Answers, Ends, EndsReading, IsBare, IsCarried, IsCauseIn, IsCutShort, IsFaultPrinted, IsMemorySpent, IsReportPrinted, IsReported, IsWritingCut, is_built}
 use Rattle.typify_run.specs.declared.report.Report.{Report}
 use Rattle.typify_run.proofs.Causes.{no_cause}
 
@@ -69,6 +69,11 @@ module _ (texts : Relations) (all : List ℕ) (before after : Option (List ℕ))
   memory_spent status report fault (inr (inl h)) e = absurd (omega (arith, h.0, e))
   memory_spent status report fault (inr (inr (inl h))) e = (h.1.1, h.1.2, inl h.1.0)
   memory_spent status report fault (inr (inr (inr h))) e = spent report fault (h.0, h.1, subst (λ s. Answers texts h.0 before after s report fault) e h.2)
+
+  pub carried : (status : ℕ) (report : Option Report) (fault : Option Fault) → Ends texts all before after status report fault → IsCarried texts before after status report fault
+  carried status report fault (inl h) = inl (inr (inl h.0), h.2)
+  carried status report fault (inr (inl h)) = inl (inr (inr (inr h.0)), h.1)
+  carried status report fault (inr (inr h)) = inr (h.0, h.2)
 
   pub refused : (status : ℕ) (report : Option Report) (fault : Option Fault) → EndsReading texts all before after status report fault → IsNoInput all → (status ≡ 3) ⊎ IsCutShort status
   refused status report fault (inl h) none = inr (inl h.0)

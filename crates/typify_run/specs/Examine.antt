@@ -1,5 +1,5 @@
 -- What is examined: a schema of the one accepted form, and values whose numbers are i64.
-use Rattle.std.specs.Prelude.{◌≡◌, ◌&&◌, ◌⊎◌, List, [], ◌∷◌, map, Bool, true, None, is_some}
+use Rattle.std.specs.Prelude.{◌≡◌, ◌&&◌, ◌⊎◌, List, [], ◌∷◌, map, Bool, true, Some, None, is_some}
 use Rattle.serde_json.specs.Data.{Data}
 use Rattle.json_value.specs.Value.{Value}
 use Rattle.syntax_trees.specs.Item.{item_view}
@@ -27,6 +27,13 @@ IsCause schema values f = (are_i64 values ≡ true) × HasFault schema f
 -- want of memory, or a fault with its cause
 abbrev pub IsRefusal : Value → List Data → FaultD → Type 0
 IsRefusal schema values f = (f ≡ memory) ⊎ IsCause schema values f
+
+-- the schema has the one form, and the items and the root are exactly those of its fields
+pub record IsEmission (schema : Value) (r : Report) : Type 0 where
+  pub fields : Fields
+  pub form : form_of schema ≡ Some fields
+  pub items : map item_view r.items.items ≡ root_item fields ∷ []
+  pub root : ty r.root ≡ root_ty
 
 -- the report of a closed object of plain fields: one item, and the verdicts of its struct
 pub record IsFlatReport (fs : Fields) (values : List Data) (r : Report) : Type 0 where

@@ -8,7 +8,7 @@ use Rattle.schema_tree.specs.Fault.{FaultD, fault_view, fault_line}
 use Rattle.schema_tree.specs.declared.fault.Fault.{Fault}
 use Rattle.run_input.specs.Input.{Parts, IsInput, IsNoInput, data_of}
 use Rattle.typify_run.specs.Headline.{IsReportOf}
-use Rattle.typify_run.specs.Examine.{is_examined, IsCause}
+use Rattle.typify_run.specs.Examine.{is_examined, IsCause, IsEmission}
 use Rattle.typify_run.specs.Page.{page}
 use Rattle.typify_run.specs.declared.report.Report.{Report}
 
@@ -16,9 +16,9 @@ use Rattle.typify_run.specs.declared.report.Report.{Report}
 abbrev pub is_built : Parts → Bool
 is_built parts = is_examined (value_of parts.schema) (data_of parts.values)
 
--- the report is one of the input's schema and values, and the schema has no fault
+-- the report is one of the input's schema and values, the schema has no fault, and the items are those of its form
 abbrev pub IsReported : Relations → Parts → Report → Type 0
-IsReported texts parts r = IsReportOf texts (value_of parts.schema) (data_of parts.values) r × (is_built parts ≡ true) × IsAccepted (value_of parts.schema)
+IsReported texts parts r = IsReportOf texts (value_of parts.schema) (data_of parts.values) r × (is_built parts ≡ true) × IsAccepted (value_of parts.schema) × IsEmission (value_of parts.schema) r
 
 -- what a fault tells has its cause in the input
 abbrev pub IsCauseIn : Parts → FaultD → Type 0
@@ -57,6 +57,16 @@ Ends texts bytes before after status report fault =
 -- the same, where reading may have failed
 abbrev pub EndsReading : Relations → List ℕ → Option (List ℕ) → Option (List ℕ) → ℕ → Option Report → Option Fault → Type 0
 EndsReading texts bytes before after status report fault = ((status ≡ 4) × IsBare before after report fault) ⊎ Ends texts bytes before after status report fault
+
+-- statuses at which nothing is carried and nothing was written
+abbrev pub IsQuiet : ℕ → Type 0
+IsQuiet status = (status ≡ 2) ⊎ ((status ≡ 3) ⊎ ((status ≡ 4) ⊎ (status ≡ 6)))
+
+-- whatever the source tells of its bytes: nothing is carried or written, or what the parts of some input say
+abbrev pub IsCarried : Relations → Option (List ℕ) → Option (List ℕ) → ℕ → Option Report → Option Fault → Type 0
+IsCarried texts before after status report fault =
+    (IsQuiet status × IsBare before after report fault)
+    ⊎ ((parts : Parts) × Answers texts parts before after status report fault)
 
 -- ---- what one status says of all the bytes of an input
 

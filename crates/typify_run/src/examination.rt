@@ -12,7 +12,7 @@ ghost use Rattle.schema_tree.specs.Numbers.{are_i64};
 ghost use Rattle.schema_tree.specs.declared.fault.UnsupportedKind.TheVariants.{NotYet};
 ghost use Rattle.schema_tree.specs.Form.{form_of};
 ghost use Rattle.schema_tree.specs.FormView.{fields_view};
-ghost use Rattle.typify_run.specs.Examine.{IsFlatReport, IsRefusal, is_examined};
+ghost use Rattle.typify_run.specs.Examine.{IsEmission, IsFlatReport, IsRefusal, is_examined};
 ghost use Rattle.typify_run.specs.Headline.{IsReportOf};
 ghost use Rattle.typify_run.specs.Model.{item_model};
 ghost use Rattle.typify_run.specs.Page.{ArePrintable};
@@ -79,6 +79,7 @@ fn examine_fields(
     requires form { form_of (value_of (view document.now)) ≡ Some (fields_view fields.now) }
     requires numbers { are_i64 (map view values.now) ≡ true }
     ensures report { IfOk result (λ r. (texts : Relations) → IsReportOf texts (value_of (view document.now)) (map view values.now) r) }
+    ensures emission { IfOk result (λ r. IsEmission (value_of (view document.now)) r) }
     ensures no_notes { IfOk result (λ r. r.notes.items ≡ []) }
     ensures printable { IfOk result (λ r. ArePrintable (map verdict_view r.verdicts.items)) }
     ensures memory { IfErr result (λ f. fault_view f ≡ memory) }
@@ -103,6 +104,7 @@ pub fn examine<T: Texts>(
 ) -> Result<Report, Fault>
     requires { 1 ≤ depth }
     ensures report { IfOk result (λ r. IsReportOf (T.relations texts.old) (value_of (view document.now)) (map view values.now) r) }
+    ensures emission { IfOk result (λ r. IsEmission (value_of (view document.now)) r) }
     ensures no_notes { IfOk result (λ r. r.notes.items ≡ []) }
     ensures printable { IfOk result (λ r. ArePrintable (map verdict_view r.verdicts.items)) }
     ensures examined { OnOk result (is_examined (value_of (view document.now)) (map view values.now) ≡ true) }

@@ -5,7 +5,7 @@ ghost use Rattle.run_io.specs.Bytes.{Rises};
 ghost use Rattle.schema_defs.specs.Texts.{Relations};
 ghost use Rattle.schema_tree.specs.Fault.{FaultD, fault_view};
 ghost use Rattle.run_input.specs.Input.{Parts, IsInput, IsNoInput, data_of, limit};
-ghost use Rattle.typify_run.specs.Outcome.{Answers, Ends, EndsReading, IsBare, IsCauseIn, IsCaused, IsCutShort, IsFaultPrinted, IsMemorySpent, IsPrinting, IsReportPrinted, IsReported, IsWritingCut, is_built};
+ghost use Rattle.typify_run.specs.Outcome.{Answers, Ends, EndsReading, IsBare, IsCarried, IsCauseIn, IsCaused, IsCutShort, IsFaultPrinted, IsMemorySpent, IsPrinting, IsReportPrinted, IsReported, IsWritingCut, is_built};
 ghost use Rattle.typify_run.specs.Page.{ArePrintable};
 ghost use Rattle.typify_run.specs.Verdict.{verdict_view};
 ghost use Rattle.typify_run.specs.Words.{check_depth};
@@ -14,7 +14,7 @@ use crate::examination::examine;
 use crate::outcome::Outcome;
 use crate::report::Report;
 use crate::words::depth_of_words;
-use run_input::{LIMIT, input_parts};
+use run_input::{InputError, LIMIT, input_parts, input_value};
 use run_io::{InputFault, Sink, SinkFault, Source, put, read_input};
 use schema_tree::{Fault, Texts};
 use serde_json::Value;
@@ -109,11 +109,10 @@ fn run_bytes<K: Sink, T: Texts>(
     ensures write_fault { result.status ≡ 5 → Rises (K.faults sink.old) (K.faults sink.new) }
     ensures kept { K.faults sink.old ≤ K.faults sink.new }
 {
-    let value = match Value::from_slice(alloc, bytes) {
+    let value = match input_value(alloc, bytes) {
         Ok(value) => value,
-        Err(error) => {
-            return Outcome::bare(if error.is_memory() { 6 } else { 3 });
-        }
+        Err(InputError::Memory) => return Outcome::bare(6),
+        Err(InputError::NotJson) => return Outcome::bare(3),
     };
     match input_parts(&value) {
         Some(parts) => run_parts(alloc, depth, parts.schema, parts.values, sink, texts),
@@ -131,6 +130,7 @@ fn run_check<S: Source, K: Sink, T: Texts>(
 ) -> Outcome
     requires { 1 ≤ depth }
     ensures ends { (all : List ℕ) → S.left source.old ≡ Some all → EndsReading (T.relations texts.old) all (K.written sink.old) (K.written sink.new) result.status result.report result.fault }
+    ensures carried { IsCarried (T.relations texts.old) (K.written sink.old) (K.written sink.new) result.status result.report result.fault }
     ensures built { result.status ≢ 2 }
     ensures within { result.status ≤ 6 }
     ensures spent { (all : List ℕ) → S.left source.old ≡ Some all → IsPrinting result.status → S.left source.new ≡ Some [] }
@@ -156,6 +156,7 @@ pub fn run<S: Source, K: Sink, T: Texts>(
     texts: &mut T,
 ) -> Outcome
     ensures within { result.status ≤ 6 }
+    ensures carried { IsCarried (T.relations texts.old) (K.written sink.old) (K.written sink.new) result.status result.report result.fault }
     ensures report { (all : List ℕ) → S.left source.old ≡ Some all → result.status ≡ 0 → IsReportPrinted (T.relations texts.old) all (K.written sink.old) (K.written sink.new) result.report result.fault }
     ensures fault { (all : List ℕ) → S.left source.old ≡ Some all → result.status ≡ 1 → IsFaultPrinted all (K.written sink.old) (K.written sink.new) result.report result.fault }
     ensures words { (result.status ≡ 2) ↔ (check_depth (map string_bytes words.now) ≡ None) }

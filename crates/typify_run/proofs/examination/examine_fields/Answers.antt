@@ -15,3 +15,6 @@ returns-in-Ok-clause-report c =
 pub returns-in-Ok-clause-printable : goal.returns-in-Ok-clause-printable
 returns-in-Ok-clause-printable c =
     printable true (flats (fields_view c.args.fields.now)) (map view c.args.values.now) (map verdict_view c.in-Ok.report.verdicts.items) c.requires.numbers c.in-Ok.ensures.verdicts
+
+pub returns-in-Ok-clause-emission : goal.returns-in-Ok-clause-emission
+returns-in-Ok-clause-emission c = record { fields = fields_view c.args.fields.now; form = c.requires.form; items = c.in-Ok.ensures.items; root = c.in-Ok.ensures.root }
