@@ -3,8 +3,8 @@
 #![tactic(auto)]
 
 use admission_run::{run, setting_of_words};
+use regex_texts::RegexTexts;
 use run_io::{StdSink, StdSource};
-use schema_tree::PlainTexts;
 use std::env;
 use std::process::ExitCode;
 
@@ -19,7 +19,8 @@ With --null-absent null may stand for an absent property: `properties` says noth
 `required` of the same schema doesn't list.
 
 The program follows the definition of JSON Schema Draft 7 step by step, and isn't fast. It knows the formats uuid, date,
-date-time, ip, ipv4 and ipv6, but no patterns: no text has one.
+date-time, ip, ipv4 and ipv6, and plain patterns: of literal characters, `.`, `^`, `$`, classes of ASCII characters, groups,
+`|`, `*`, `+`, `?`, `{n}`, `{n,}`, `{n,m}`, escaped punctuation, `\\d` and `\\w`. No text has another pattern.
 
 Status: 0 a line for each value was printed, 1 one line names a fault, 2 there are other words on the command line,
 3 the input is too long or isn't that object, 4 reading failed, 5 writing failed, 6 memory ran out.";
@@ -47,7 +48,7 @@ fn main(rt: HostRuntime) -> ExitCode {
     };
     let mut source = StdSource::new(&rt);
     let mut sink = StdSink::new(&rt);
-    let mut texts = PlainTexts::new(alloc);
+    let mut texts = RegexTexts::new(alloc);
     let outcome = run(alloc, &mut source, &mut sink, &mut texts, setting);
     ExitCode::from(outcome.status())
 }

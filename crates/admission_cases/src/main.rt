@@ -2,24 +2,26 @@
 //! values; it is printed again, with `admitted` or `refused` behind it for each value, or with its fault.
 #![tactic(auto)]
 
+use regex_texts::RegexTexts;
 use run_input::input_parts;
 use schema_admission::admits;
 use schema_reading::document;
-use schema_tree::{PlainTexts, TextFault};
+use schema_tree::TextFault;
 use schema_types::{Document, Setting};
 use serde_json::Value;
 use std::alloc::{AllocError, Global};
 
 fn main(rt: HostRuntime) -> Result<(), anyhow::Error> {
+    let mut texts = RegexTexts::new(rt.alloc());
     for line in rt.lines(rt.alloc()) {
         let line = line?;
-        let found = answer(rt.alloc(), &line)?;
+        let found = answer(rt.alloc(), &mut texts, &line)?;
         println!(rt; "{line} =>{found}")?;
     }
     Ok(())
 }
 
-fn answer(alloc: Global, line: &str) -> Result<String, AllocError> {
+fn answer(alloc: Global, texts: &mut RegexTexts, line: &str) -> Result<String, AllocError> {
     let Ok(value) = Value::from_str(alloc, line) else {
         return String::from_str(alloc, "no JSON");
     };
@@ -31,14 +33,18 @@ fn answer(alloc: Global, line: &str) -> Result<String, AllocError> {
     };
     let mut shown = String::new(alloc);
     for value in parts.values {
-        shown.push_str(verdict(alloc, &document, value)?)?;
+        shown.push_str(verdict(alloc, &document, texts, value)?)?;
     }
     Ok(shown)
 }
 
-fn verdict(alloc: Global, document: &Document, value: &Value) -> Result<&'static str, AllocError> {
-    let mut texts = PlainTexts::new(alloc);
-    match admits(alloc, document, &mut texts, value) {
+fn verdict(
+    alloc: Global,
+    document: &Document,
+    texts: &mut RegexTexts,
+    value: &Value,
+) -> Result<&'static str, AllocError> {
+    match admits(alloc, document, texts, value) {
         Ok(true) => Ok(" admitted"),
         Ok(false) => Ok(" refused"),
         Err(TextFault::Failed) => Ok(" failed"),

@@ -2,7 +2,7 @@
 //! output, and the status of the run as the process's.
 #![tactic(auto)]
 
-use schema_tree::PlainTexts;
+use regex_texts::RegexTexts;
 use std::env;
 use std::process::ExitCode;
 use typify_run::{StdSink, StdSource, run};
@@ -47,7 +47,7 @@ fn main(rt: HostRuntime) -> ExitCode {
     }
     let mut source = StdSource::new(&rt);
     let mut sink = StdSink::new(&rt);
-    let mut texts = PlainTexts::new(alloc);
+    let mut texts = RegexTexts::new(alloc);
     let outcome = run(alloc, words.as_slice(), &mut source, &mut sink, &mut texts);
     ExitCode::from(outcome.status)
 }

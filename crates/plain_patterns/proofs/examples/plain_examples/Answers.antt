@@ -1,0 +1,35 @@
+use Rattle.std.proofs.Common.{refl}
+use Rattle.std.specs.Char.{encode_utf8}
+use Rattle.std.specs.Str.{chars}
+use Rattle.plain_patterns.specs.Plain.{members, piece, pieces, rewritten}
+use Rattle.plain_patterns.proofs.examples.plain_examples.Goals as goal
+
+pub returns : goal.returns
+unfolding chars encode_utf8 members piece pieces rewritten
+returns c = record {
+  empty = refl;
+  letters = refl;
+  word_of_lower_case = refl;
+  any = refl;
+  digits = refl;
+  words = refl;
+  bars = refl;
+  groups = refl;
+  no_branch = refl;
+  counts = refl;
+  leading_zero = refl;
+  escapes = refl;
+  angles = refl;
+  hyphen = refl;
+  class_of_signs = refl;
+  not_these = refl;
+  hyphen_first = refl;
+  hyphen_last = refl;
+  hyphen_after_range = refl;
+  two_hyphens = refl;
+  both = refl;
+  bracket_inside = refl;
+  escaped_bracket = refl;
+  sets_inside = refl;
+  mail = refl;
+}

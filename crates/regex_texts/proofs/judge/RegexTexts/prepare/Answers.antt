@@ -1,0 +1,29 @@
+use Rattle.std.proofs.Common.{◌≡◌, ◌∙◌, sym, ap, Some, string_bytes}
+use Rattle.std.specs.BTreeMap.{get_by_text}
+use Rattle.plain_patterns.specs.Plain.{rewritten}
+use Rattle.schema_texts.specs.declared.judge.TextFault.TheVariants.{Failed}
+use Rattle.regex_texts.proofs.Kept.{kept_plain}
+use Rattle.regex_texts.proofs.judge.RegexTexts.prepare.Goals as goal
+
+pub returns-then-contains_key-clause-plain : goal.returns-then-contains_key-clause-plain
+returns-then-contains_key-clause-plain c =
+    sym (kept_plain c.args.pattern.now (get_by_text c.args.self.now.compiled c.args.pattern.now) (c.args.self.now.searching c.args.pattern.now)
+    (sym c.contains_key.ensures ∙ c.if-contains_key.true))
+
+pub returns : goal.returns
+returns c =
+    let written : Some (string_bytes c.in-Ok-Some.source) ≡ rewritten c.args.pattern.now = rw c.in-Ok-Some.field-0-is at c.in-Ok-Some.ensures.rewritten in
+    record {
+      plain = tt;
+      kept = tt;
+      refused = λ e.
+          let failed : c.fault.result ≡ Failed = cc in (
+            c.deref.result.now,
+            c.in-Err-compile.error,
+            sym written ∙ ap Some (sym c.deref.ensures),
+            c.fault.ensures.other_cause failed,
+            c.in-Err-compile.ensures.refused,
+          );
+      failed = λ e. let failed : c.fault.result ≡ Failed = cc in c.fault.ensures.failed failed;
+      counts = c.fault.ensures.counts;
+    }

@@ -1,0 +1,19 @@
+-- Worked examples: texts that have a pattern, and texts that don't.
+use Rattle.std.specs.Prelude.{◌≡◌, true, false, codes}
+use Rattle.regex_texts.specs.Search.{matches}
+
+pub record SearchExamples : Type 0 where
+  pub empty : matches (codes "") (codes "") ≡ true
+  pub within : matches (codes "b") (codes "abc") ≡ true
+  pub either : matches (codes "a|bc") (codes "bc") ≡ true
+  pub neither : matches (codes "a|bc") (codes "cb") ≡ false
+  pub twice : matches (codes "a{2}") (codes "aa") ≡ true
+  pub once : matches (codes "a{2}") (codes "a") ≡ false
+  pub some : matches (codes "ab*c") (codes "abbc") ≡ true
+  pub punctuation : matches (codes "\\.") (codes "a") ≡ false
+  pub lazy : matches (codes "a+?") (codes "a") ≡ false
+
+pub record EndExamples : Type 0 where
+  pub whole : matches (codes "^ab$") (codes "ab") ≡ true
+  pub front : matches (codes "^ab$") (codes "abc") ≡ false
+  pub back : matches (codes "b$") (codes "ab") ≡ true

@@ -1,0 +1,4 @@
+pub mod Examples
+pub mod Refused
+pub mod Search
+pub mod Searchers

@@ -1,0 +1,13 @@
+//! Worked examples of the definition: each group is the contract of a function that does nothing.
+
+ghost use Rattle.regex_texts.specs.Examples.{EndExamples, SearchExamples};
+
+/// Patterns with texts that have them, and with texts that don't.
+pub fn search_examples()
+    ensures { SearchExamples }
+{}
+
+/// The same, where the pattern speaks of the ends of the text.
+pub fn end_examples()
+    ensures { EndExamples }
+{}
