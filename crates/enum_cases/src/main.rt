@@ -1,6 +1,6 @@
 //! Reads schema documents, one a line, and prints what is told of the members of `anyOf` at the root of each: whether they
-//! are an option, whether they are exclusive, and the kinds that each leaves open, by letters: null, boolean, integer or
-//! other number, string, array, object.
+//! are an option, their external, internal and adjacent shapes, whether they are exclusive, and the kinds that each leaves
+//! open. A case that holds something is written with `+`, and a closed one with `!`.
 #![tactic(auto)]
 
 mod line;

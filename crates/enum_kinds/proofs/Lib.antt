@@ -1,0 +1,4 @@
+pub mod Seen
+pub mod Sets
+pub mod Parts
+pub mod Views

@@ -1,5 +1,0 @@
-pub mod Seen
-pub mod Sets
-pub mod Named
-pub mod Parts
-pub mod Views

@@ -1,6 +1,0 @@
-use Rattle.std.proofs.Common.{◌∙◌}
-use Rattle.typify_enums.proofs.Named.{key_found}
-use Rattle.typify_enums.proofs.object.requires_name.Goals as goal
-
-pub returns : goal.returns
-returns c = c.contains.ensures ∙ key_found c.args.name.now c.args.required.now.keys
