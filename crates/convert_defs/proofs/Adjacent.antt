@@ -14,7 +14,8 @@ use Rattle.entry_defs.specs.Entry.{Entry, any_entry}
 use Rattle.entry_defs.specs.Layer as entry
 use Rattle.entry_defs.specs.Members.{has_member, AreMembers}
 use Rattle.convert_defs.specs.Row.{Way, narrowed, widened}
-use Rattle.convert_defs.specs.Shapes.{ObjectShape, constant_text}
+use Rattle.convert_defs.proofs.PlacedShapes.{ObjectShape}
+use Rattle.enum_defs.specs.Shapes.{constant_text}
 use Rattle.convert_defs.specs.Laws.{Keeps}
 use Rattle.convert_defs.proofs.Bare.{and_left, and_right, and_true, impossible, none-some, some-same, or_left, or_right}
 use Rattle.convert_defs.proofs.Views.{JudgesMatch, MembersMatch, Constants}

@@ -2,7 +2,7 @@
 use Rattle.schema_defs.specs.declared.Setting.TheVariants.{Strict}
 use Rattle.schema_defs.specs.declared.Setting.{Setting}
 use Rattle.schema_defs.specs.Layer.{MemberPart as SchemaMember}
-use Rattle.std.proofs.Common.{◌≡◌, ◌⊎◌, inl, inr, ℕ, suc, List, [], ◌∷◌, ◌++◌, map, filter, Bool, true, false, ◌&&◌, ◌||◌, not, Option, Some, None, option_map, option_and_then, is_some, refl, sym, ap, ◌∙◌, subst, true≢false, codes, bytes_eq}
+use Rattle.std.proofs.Common.{◌≡◌, ◌⊎◌, inl, inr, ℕ, suc, List, [], ◌∷◌, ◌++◌, map, Bool, true, false, ◌&&◌, ◌||◌, not, Option, Some, None, option_map, option_and_then, refl, sym, ap, ◌∙◌, subst, true≢false, codes, bytes_eq}
 use Rattle.std.specs.Prelude.{if◌then◌else◌}
 use Rattle.std.specs.List.{list_all, list_any, flat_map}
 use Rattle.std.proofs.lemmas.Slice.Eq.{bytes_eq-Decides}
@@ -15,19 +15,20 @@ use Rattle.schema_defs.specs.Layer.{Parts, property_at, is_given, maybe}
 use Rattle.model_defs.specs.Model.{adjacent_tag}
 use Rattle.model_defs.specs.Layer as model
 use Rattle.model_defs.specs.Layer.{MemberPart, object_parts, members_in, named, without, is_none}
-use Rattle.entry_defs.specs.Entry.{Target, Entry, boolean_entry, integer_entry, text_entry, native_entry, any_entry, unit_entry, option_entry, vec_entry, set_entry, map_entry, tuple_entry, array_entry, reference, item, no_entries, entry_then, struct_shape, enum_shape, newtype_shape, no_rest, rest, newtype_contents, struct_contents, VariantEntry, variants_of}
+use Rattle.entry_defs.specs.Entry.{Target, Entry, boolean_entry, integer_entry, text_entry, native_entry, any_entry, unit_entry, option_entry, vec_entry, set_entry, map_entry, tuple_entry, array_entry, reference, item, struct_shape, enum_shape, newtype_shape, rest_of, newtype_contents, tuple_contents, struct_contents, VariantEntry, variants_of}
 use Rattle.entry_defs.specs.Layer as entry
 use Rattle.entry_defs.specs.Layer.{entry_takes, variant_named, variant_of_text, tagged_variant, is_unit, contents_entry, beside_content, adjacent_takes}
 use Rattle.entry_defs.specs.Members.{has_member, AreMembers}
 use Rattle.convert_defs.specs.Row.{Way, narrowed, widened, here, mixed_branches_note, tag_alone_note, Part, of_branch, unit_body, part_body, VariantBody, body_parts, VariantRow, variants_parts, enum_row, by_shape}
 use Rattle.convert_defs.specs.IntegerRow.{note_if}
-use Rattle.convert_defs.specs.Scalars.{distinct}
-use Rattle.convert_defs.proofs.Listed.{once}
-use Rattle.convert_defs.specs.Owners.{is_name, property_fields}
-use Rattle.convert_defs.specs.Shapes.{placed_field, has_tag_alone, is_no_property, are_all_required, all_names, Member, members_from, ObjectShape, object_shape, names_of, constant_text, constant_in, constant_at, all_some, tag_texts, are_tags, is_tag, are_distinct, words_or_none, less_property, body_of_field, adjacent_variant, TaggedShape, some_closed, adjacent_with, adjacent_by, adjacent_shape}
+use Rattle.convert_defs.specs.Owners.{property_fields}
+use Rattle.enum_defs.specs.Words.{is_name, names_of, all_some}
+use Rattle.convert_defs.proofs.PlacedShapes.{has_tag_alone, are_all_required, ObjectShape, object_shape, constant_at, tag_texts, are_tags, is_tag, are_distinct, adjacent_variant, some_closed, adjacent_with}
+use Rattle.convert_defs.specs.Shapes.{placed_field, is_no_property, Member, members_from, words_or_none, less_property, body_of_field, TaggedShape, adjacent_members as adjacent_shape}
+use Rattle.enum_defs.specs.Shapes.{constant_text, constant_in}
 use Rattle.convert_defs.specs.Apart.{differ, is_apart, all_apart}
 use Rattle.convert_defs.specs.Table.{one_of_adjacent}
-use Rattle.convert_defs.specs.Convert.{same_flag, content_of, body_content, row_variants, entry_of}
+use Rattle.convert_defs.specs.Convert.{same_flag, is_without_rest, has_two_places, content_of, body_content, row_variants, entry_of}
 use Rattle.convert_defs.specs.Laws.{Keeps, same_way}
 use Rattle.convert_defs.proofs.Keeps.{keep-equal, keep-from, keep-to, free-note, free-left, free-right}
 use Rattle.convert_defs.proofs.Bare.{and_left, and_right, and_true, impossible, none-some, some-same, or_left, or_right}
@@ -40,21 +41,11 @@ use Rattle.convert_defs.proofs.Differ.{distinct-differ, head-alone}
 use Rattle.convert_defs.proofs.Contents.{content-judged}
 use Rattle.convert_defs.proofs.Adjacent.{named-once, adjacent-keeps, tag-value}
 use Rattle.convert_defs.proofs.Internal.{Told, AllTold, counted-told, text_in, tag_key, text-there, less-same}
+use Rattle.convert_defs.proofs.SameShapes.{whole, adjacent-found}
 
 constant-there : (m : MaybeSchema) (s : List ℕ) → constant_in m ≡ Some s → (u : Schema) × (m ≡ the_schema u) × (constant_text u ≡ Some s)
 constant-there no_schema s h = none-some s h
 constant-there (the_schema u) s h = (u, refl, h)
-
-first-passes : (p : List ℕ → Bool) (ns : List (List ℕ)) (n : List ℕ) (ms : List (List ℕ)) → filter p ns ≡ n ∷ ms → p n ≡ true
-first-passes p [] n ms h = impossible (ap (λ xs. elim xs [ [] ↦ false | y ∷ ys ↦ true ]) h)
-first-passes p (x ∷ ns) n ms h = by (p x) refl h (first-passes p ns n ms)
-  where
-    first : List (List ℕ) → List ℕ
-    first xs = elim xs [ [] ↦ x | y ∷ ys ↦ y ]
-
-    by : (b : Bool) → p x ≡ b → (if b then x ∷ filter p ns else filter p ns) ≡ n ∷ ms → (filter p ns ≡ n ∷ ms → p n ≡ true) → p n ≡ true
-    by true e h f = ap p (sym (ap first h)) ∙ e
-    by false e h f = f h
 
 module _ (way : Way) (P : List ℕ → Type 0) (st : Setting) (R : Schema → Entry → Type 0) (conv : Part → Entry) (r : Relations) (fol : List ℕ → Bool) (tgt : Target → Bool) (v : Value) (ps : Parts) (es : model.Parts entry.Judge) (w : View way st R r v ps es) where
   abbrev AllOpen : Bool → List ObjectShape → Type 0
@@ -117,16 +108,17 @@ module _ (way : Way) (P : List ℕ → Type 0) (st : Setting) (R : Schema → En
     -- ---- one branch
 
     pub no-part : (e : Entry) → is_unit (content_of (adjacent_tag tag content) closed e) ≡ false
-    no-part (tuple_entry no_entries) = refl
-    no-part (tuple_entry (entry_then e no_entries)) = refl
-    no-part (tuple_entry (entry_then e (entry_then f us))) = refl
-    no-part unit_entry = refl
-    no-part (item l (struct_shape c fs no_rest)) = by (same_flag c closed)
+    no-part (tuple_entry us) = by (has_two_places us)
       where
-        by : (b : Bool) → is_unit (if b then struct_contents fs else newtype_contents (item l (struct_shape c fs no_rest))) ≡ false
+        by : (b : Bool) → is_unit (if b then tuple_contents us else newtype_contents (tuple_entry us)) ≡ false
         by true = refl
         by false = refl
-    no-part (item l (struct_shape c fs (rest i e))) = refl
+    no-part unit_entry = refl
+    no-part (item l (struct_shape c fs)) = by (same_flag c closed && is_without_rest (rest_of fs))
+      where
+        by : (b : Bool) → is_unit (if b then struct_contents fs else newtype_contents (item l (struct_shape c fs))) ≡ false
+        by true = refl
+        by false = refl
     no-part (item l (enum_shape c t ws)) = refl
     no-part (item l (newtype_shape e u)) = refl
     no-part boolean_entry = refl
@@ -471,30 +463,8 @@ module _ (way : Way) (P : List ℕ → Type 0) (st : Setting) (R : Schema → En
       shut : same_way way narrowed ≡ true → c ≡ true → o.closed ≡ true
       shut z x = not-not o.closed (or_left (not o.closed) (list_any (λ o. not o.closed) os) (sym (ap (λ b. b && (not o.closed || list_any (λ o. not o.closed) os)) x) ∙ f z))
 
-  -- two distinct names differ
-  two-differ : (ns : List (List ℕ)) (a b : List ℕ) → distinct ns ≡ a ∷ b ∷ [] → bytes_eq a b ≡ false
-  two-differ [] a b h = absurd (true≢false (sym (ap (λ xs. elim xs [ [] ↦ false | y ∷ ys ↦ true ]) h)))
-  two-differ (n ∷ ns) a b h =
-      let x = ap (λ xs. elim xs [ [] ↦ n | y ∷ ys ↦ y ]) h in
-      let y = ap (λ xs. elim xs [ [] ↦ [] | y ∷ ys ↦ ys ]) h in
-      kept (first-passes (λ m. not (bytes_eq n m)) (distinct ns) b [] y) x
-    where
-      kept : not (bytes_eq n b) ≡ true → n ≡ a → bytes_eq a b ≡ false
-      kept h x = by (bytes_eq a b) refl
-        where
-          by : (c : Bool) → bytes_eq a b ≡ c → c ≡ false
-          by true e = absurd (true≢false (sym h ∙ ap not (ap (λ m. bytes_eq m b) x ∙ e)))
-          by false e = refl
-
-  turned-names : (a b : List ℕ) → bytes_eq a b ≡ false → bytes_eq b a ≡ false
-  turned-names a b h = by (bytes_eq b a) refl
-    where
-      by : (c : Bool) → bytes_eq b a ≡ c → c ≡ false
-      by true x = absurd (true≢false (sym ((bytes_eq-Decides a b).1 (sym ((bytes_eq-Decides b a).0 x))) ∙ h))
-      by false x = refl
-
   pub adjacent-holds : (d : Document) (name : List ℕ) (k : Step) (us : Schemas) → all_apart us ≡ true → (t : TaggedShape) → adjacent_shape (members_from k 0 us) ≡ Some t → One way P st R conv r fol tgt v ps es w name us (one_of_adjacent d (members_from k 0 us) (Some t))
-  adjacent-holds d name k us a t e = λ g0 c q. by (all_some object_shape (members_from k 0 us)) refl e c q
+  adjacent-holds d name k us a t e = λ g0 c q. let f = adjacent-found (members_from k 0 us) t e in made (map whole (members_from k 0 us)) f.shapes f.all_needed f.tag f.content f.differ f.among f.is_one t f.made c q
     where
       tags : (os : List ObjectShape) (n : List ℕ) → is_tag os n ≡ true → (ts : List (List ℕ)) × (tag_texts os n ≡ Some ts) × (are_distinct ts ≡ true) × (list_all (λ o. is_name n o.required_names) os ≡ true)
       tags os n h = by (tag_texts os n) refl h
@@ -521,40 +491,3 @@ module _ (way : Way) (P : List ℕ → Type 0) (st : Setting) (R : Schema → En
           some : (a b : Bool) → b ≡ true → (not a && b) ≡ false → a ≡ true
           some true b h k = refl
           some false b h k = absurd (true≢false (sym h ∙ k))
-
-      two : (os : List ObjectShape) → all_some object_shape (members_from k 0 us) ≡ Some os → (ns : List (List ℕ)) → all_names os ≡ ns → adjacent_by os ns ≡ Some t → IsClean way (one_of_adjacent d (members_from k 0 us) (Some t)) → AllParts (IsSound way P st R conv r fol tgt v ps es w) (variants_parts t.variants)
-          → Keeps way (Counted way P st R conv r fol tgt v ps es w us) (entry_takes r v es tgt (entry_of conv name (enum_row (adjacent_tag t.tag t.content) (by_shape t.closed) t.variants)))
-      two os f [] g h c q = none-some t h
-      two os f (x ∷ []) g h c q = none-some t h
-      two os f (x ∷ y ∷ z ∷ ns) g h c q = none-some t h
-      two os f (x ∷ y ∷ []) g h c q = tested (list_all are_all_required os) refl (is_tag os x && not (is_some (tag_texts os y))) refl (is_tag os y && not (is_some (tag_texts os x))) refl h
-        where
-          apart : bytes_eq x y ≡ false
-          apart = two-differ (flat_map (λ o. names_of o.props) os) x y g
-
-          swap : (a b : Bool) → (a || (b || false)) ≡ true → (b || a) ≡ true
-          swap true true h = refl
-          swap true false h = refl
-          swap false true h = refl
-          swap false false h = impossible h
-
-          plain : (a b : Bool) → (a || (b || false)) ≡ true → (a || b) ≡ true
-          plain true b h = refl
-          plain false true h = refl
-          plain false false h = impossible h
-
-          named-two : (n : List ℕ) → is_name n (flat_map (λ o. names_of o.props) os) ≡ true → (bytes_eq n x || (bytes_eq n y || false)) ≡ true
-          named-two n i = ap (is_name n) (sym g) ∙ once n (flat_map (λ o. names_of o.props) os) ∙ i
-
-          tested : (u : Bool) → list_all are_all_required os ≡ u → (i : Bool) → (is_tag os x && not (is_some (tag_texts os y))) ≡ i → (j : Bool) → (is_tag os y && not (is_some (tag_texts os x))) ≡ j
-              → (if not u then None else if i then Some (adjacent_with os x y) else if j then Some (adjacent_with os y x) else None) ≡ Some t
-              → Keeps way (Counted way P st R conv r fol tgt v ps es w us) (entry_takes r v es tgt (entry_of conv name (enum_row (adjacent_tag t.tag t.content) (by_shape t.closed) t.variants)))
-          tested false u i m j l h = none-some t h
-          tested true u true m j l h = made os f u x y (turned-names x y apart) (λ n i. plain (bytes_eq n x) (bytes_eq n y) (named-two n i)) (and_left _ _ m) t (sym (some-same (adjacent_with os x y) t h)) c q
-          tested true u false m true l h = made os f u y x apart (λ n i. swap (bytes_eq n x) (bytes_eq n y) (named-two n i)) (and_left _ _ l) t (sym (some-same (adjacent_with os y x) t h)) c q
-          tested true u false m false l h = none-some t h
-
-      by : (x : Option (List ObjectShape)) → all_some object_shape (members_from k 0 us) ≡ x → option_and_then (λ os. adjacent_by os (all_names os)) x ≡ Some t → IsClean way (one_of_adjacent d (members_from k 0 us) (Some t)) → AllParts (IsSound way P st R conv r fol tgt v ps es w) (variants_parts t.variants)
-          → Keeps way (Counted way P st R conv r fol tgt v ps es w us) (entry_takes r v es tgt (entry_of conv name (enum_row (adjacent_tag t.tag t.content) (by_shape t.closed) t.variants)))
-      by None f h c q = none-some t h
-      by (Some os) f h c q = two os f (all_names os) refl h c q

@@ -15,7 +15,8 @@ use Rattle.entry_defs.specs.Entry.{Target, Entry, unit_entry}
 use Rattle.entry_defs.specs.Layer as entry
 use Rattle.entry_defs.specs.Layer.{entry_takes}
 use Rattle.convert_defs.specs.Row.{Way, widened, narrowed, Part, made, leaf_row, option_row, ruled_row, plainly, refused_row, nested_enum, mixed_enum}
-use Rattle.convert_defs.specs.Standing.{without_same, without_lists, without_named, less_enum, listing, of_type, alone, no_keyword}
+use Rattle.convert_defs.specs.Standing.{less_enum, listing, of_type, alone, no_keyword}
+use Rattle.enum_defs.specs.Words.{without_same, without_lists, without_named}
 use Rattle.convert_defs.specs.Scalars.{listed_alone, is_owner, is_number, without_nulls, non_null, texts_in, distinct, texts_entry, never_entry, wanted_of, boolean_finding, lists_both}
 use Rattle.convert_defs.specs.Table.{listed, no_others}
 use Rattle.convert_defs.specs.Laws.{Keeps, same_way, Free}

@@ -1,20 +1,38 @@
 -- The names of the fields of an object row differ.
-use Rattle.std.proofs.Common.{◌≡◌, ℕ, List, [], ◌∷◌, ◌++◌, Bool, true, false, ◌&&◌, not, refl, sym, ap, ◌∙◌, true≢false, bytes_eq}
+use Rattle.std.proofs.Common.{◌≡◌, ℕ, List, [], ◌∷◌, ◌++◌, Bool, true, false, ◌&&◌, not, Option, Some, None, refl, sym, ap, ◌∙◌, true≢false, bytes_eq}
 use Rattle.std.specs.Prelude.{if◌then◌else◌}
 use Rattle.std.proofs.lemmas.Slice.Eq.{bytes_eq-Decides}
 use Rattle.std.specs.List.{list_all}
 use Rattle.schema_defs.specs.declared.Setting.{Setting}
-use Rattle.schema_defs.specs.Schema.{Schema, the_schema, Properties, no_properties, property}
+use Rattle.schema_defs.specs.Schema.{Schema, MaybeSchema, the_schema, Properties, no_properties, property}
 use Rattle.schema_defs.specs.Layer.{property_at, is_given}
 use Rattle.entry_defs.specs.Entry.{required}
-use Rattle.convert_defs.specs.Row.{Part, FieldRow}
-use Rattle.convert_defs.specs.Owners.{property_fields, required_fields}
-use Rattle.convert_defs.specs.Shapes.{names_of}
+use Rattle.convert_defs.specs.Row.{Part, FieldRow, OutsideRow}
+use Rattle.convert_defs.specs.Owners.{property_fields, outside_names, outside_row, keeps_rest, other_part}
+use Rattle.enum_defs.specs.Words.{names_of}
 use Rattle.convert_defs.specs.Apart.{differ}
 use Rattle.convert_defs.proofs.Bare.{and_left, and_right}
 
-abbrev other_field : List ℕ → Part → FieldRow
+abbrev pub other_field : List ℕ → Part → FieldRow
 other_field l other = record { name = l; part = other; state = required; nullable = false }
+
+-- each required name outside `properties` as a field of its own
+abbrev pub required_fields : Properties → Part → List (List ℕ) → List FieldRow
+required_fields props other [] = []
+required_fields props other (n ∷ ns) = if is_given (property_at n props) then required_fields props other ns else other_field n other ∷ required_fields props other ns
+
+abbrev pub outside_rows : Part → List (List ℕ) → List FieldRow
+outside_rows other [] = []
+outside_rows other (n ∷ ns) = other_field n other ∷ outside_rows other ns
+
+pub rows-outside : (props : Properties) (other : Part) (ns : List (List ℕ)) → outside_rows other (outside_names props ns) ≡ required_fields props other ns
+rows-outside props other [] = refl
+rows-outside props other (n ∷ ns) = by (is_given (property_at n props)) (rows-outside props other ns)
+  where
+    by : (b : Bool) → outside_rows other (outside_names props ns) ≡ required_fields props other ns
+        → outside_rows other (if not b then n ∷ outside_names props ns else outside_names props ns) ≡ (if b then required_fields props other ns else other_field n other ∷ required_fields props other ns)
+    by true h = h
+    by false h = ap (λ xs. other_field n other ∷ xs) h
 
 abbrev pub names_in : List FieldRow → List (List ℕ)
 names_in [] = []
@@ -86,3 +104,29 @@ pub fields-apart : (st : Setting) (req : List (List ℕ)) (props : Properties) (
 fields-apart st req props other h g =
     ap differ (named-both (property_fields st req props) (required_fields props other req) ∙ ap (λ xs. xs ++ names_in (required_fields props other req)) (of-properties st req props))
     ∙ joined-differ props (names_in (required_fields props other req)) h (outside-differ props other req g) (λ n e. given-outside props other n req e)
+
+-- ---- the same of the names that stand outside, in one row
+
+abbrev pub names_outside : Option OutsideRow → List (List ℕ)
+names_outside None = []
+names_outside (Some o) = o.names
+
+pub row-names : (ns : List (List ℕ)) (rest : MaybeSchema) → names_outside (outside_row ns rest) ≡ ns
+row-names (n ∷ ns) rest = refl
+row-names [] rest = by (keeps_rest rest)
+  where
+    by : (b : Bool) → names_outside (if b then Some (record { names = []; part = other_part rest; keeps_rest = true }) else None) ≡ []
+    by true = refl
+    by false = refl
+
+names-of-rows : (other : Part) (ns : List (List ℕ)) → names_in (outside_rows other ns) ≡ ns
+names-of-rows other [] = refl
+names-of-rows other (n ∷ ns) = ap (λ xs. n ∷ xs) (names-of-rows other ns)
+
+pub struct-apart : (st : Setting) (req : List (List ℕ)) (props : Properties) (rest : MaybeSchema) → differ (names_of props) ≡ true → differ req ≡ true
+    → differ (names_in (property_fields st req props) ++ names_outside (outside_row (outside_names props req) rest)) ≡ true
+struct-apart st req props rest h g =
+    let other = other_part rest in
+    ap (λ xs. differ (names_in (property_fields st req props) ++ xs)) (row-names (outside_names props req) rest ∙ sym (names-of-rows other (outside_names props req)) ∙ ap names_in (rows-outside props other req))
+    ∙ sym (ap differ (named-both (property_fields st req props) (required_fields props other req)))
+    ∙ fields-apart st req props other h g

@@ -1,6 +1,6 @@
 -- Rows of arrays: lists and sets of any length, and those of one length.
 use Rattle.schema_defs.specs.declared.Setting.{Setting}
-use Rattle.std.proofs.Common.{◌≡◌, ℕ, zero, suc, List, [], ◌∷◌, length, Bool, true, false, ◌&&◌, ◌||◌, not, Option, Some, None, is_none, is_some, refl, sym, ap, ◌∙◌, nat_le, ◌==◌, codes}
+use Rattle.std.proofs.Common.{◌≡◌, ℕ, zero, suc, List, [], ◌∷◌, ◌++◌, length, Bool, true, false, ◌&&◌, ◌||◌, not, Option, Some, None, is_none, is_some, refl, sym, ap, ◌∙◌, nat_le, ◌==◌, codes}
 use Rattle.std.specs.Prelude.{if◌then◌else◌, nat_eq}
 use Rattle.std.proofs.Math.Dec.{leb-zero, leb-suc-zero, leb-suc-suc, eqb-suc-zero, eqb-zero-suc, eqb-suc-suc}
 use Rattle.std.proofs.lemmas.Bool.{eqb-true}
@@ -14,15 +14,15 @@ use Rattle.schema_defs.specs.Schema.{Plain, Schema, boolean, object, Same, Lists
 use Rattle.schema_defs.specs.Layer.{Judge, Parts, if_given, of_kind_agrees, parts_agree, is_kind, lists_agree, items_agree, list_rules_agree, by_places, maybe, all_distinct, contains_agrees, is_given}
 use Rattle.model_defs.specs.Layer as model
 use Rattle.model_defs.specs.Layer.{no_parts, list_parts, object_parts}
-use Rattle.entry_defs.specs.Entry.{Target, Entry, Entries, vec_entry, array_entry, tuple_entry, entries_of}
+use Rattle.entry_defs.specs.Entry.{Target, Entry, Entries, no_entries, next_entry, vec_entry, array_entry, tuple_entry, entries_of}
 use Rattle.entry_defs.specs.Layer as entry
 use Rattle.entry_defs.specs.Layer.{entry_takes, in_places}
-use Rattle.convert_defs.specs.Row.{Way, widened, Part, child}
-use Rattle.convert_defs.specs.Standing.{has_type, is_bare}
-use Rattle.convert_defs.specs.Owners.{anything, part_at, each_part, is_by_place, list_notes, is_true, above_zero, fixed_size, one_size, filled}
-use Rattle.convert_defs.specs.Convert.{row_entries}
+use Rattle.convert_defs.specs.Row.{Way, widened, Part, child, further_parts}
+use Rattle.enum_defs.specs.Words.{has_type, is_bare}
+use Rattle.convert_defs.specs.Owners.{anything, part_at, each_part, is_by_place, list_notes, is_true, above_zero, fixed_size, one_size, listed_parts, unlisted}
+use Rattle.convert_defs.specs.Convert.{row_entries, alike_entries}
 use Rattle.convert_defs.specs.Laws.{Keeps, same_way, Free}
-use Rattle.convert_defs.proofs.Keeps.{keep-equal, keep-from, keep-then, keep-both, keep-wider, free-note}
+use Rattle.convert_defs.proofs.Keeps.{keep-equal, keep-from, keep-to, keep-then, keep-both, keep-wider, free-note}
 use Rattle.convert_defs.proofs.Views.{View, of_null, of_boolean, of_number, of_text, of_list, of_object, JudgesMatch, ItemsMatch, each-agrees, each-true, IsConverted, AllParts, says-any}
 use Rattle.convert_defs.proofs.Bare.{and_left, and_right, and_true, and_false, or_left, or_right, impossible, typed, none-some, not_true, none-agrees, swapped, exchanged, not-above, no-most}
 use Rattle.convert_defs.proofs.Scalars.{Agrees}
@@ -122,9 +122,40 @@ module _ (way : Way) (st : Setting) (R : Schema → Entry → Type 0) (conv : Pa
   rest-says w no_schema j k h e = says-any way st R j k h (conv anything) e
   rest-says w (the_schema s) j k h e = h.agree s (conv (part_at w (the_schema s))) e
 
-  pub tuple-agrees : (i n : ℕ) (ss : Schemas) (rest : MaybeSchema) → AllParts Conv (filled i n ss (part_at (codes "additionalItems") rest))
+  -- n places, the first of them at place i: those listed, and then each of the rest by itself
+  abbrev filled : ℕ → ℕ → Schemas → Part → List Part
+  filled i zero ss rest = []
+  filled i (suc n) no_more rest = rest ∷ filled (suc i) n no_more rest
+  filled i (suc n) (schema s ss) rest = child (codes "items" ∷ place i ∷ []) s ∷ filled (suc i) n ss rest
+
+  next-alike : (n : ℕ) (e : Entry) → next_entry (alike_entries (suc n) e) ≡ e
+  next-alike zero e = refl
+  next-alike (suc n) e = next-alike n e
+
+  further : (i n : ℕ) (p : Part) → entries_of (alike_entries n (conv p)) ≡ entries_of (row_entries conv (filled i n no_more p) no_entries)
+  further i zero p = refl
+  further i (suc zero) p = refl
+  further i (suc (suc n)) p = λ j. next-alike n (conv p) j ∷ further (suc i) (suc n) p j
+
+  -- the rest is one part
+  all-places : (i n : ℕ) (ss : Schemas) (p : Part) → entries_of (row_entries conv (listed_parts i n ss) (alike_entries (unlisted n ss) (conv p))) ≡ entries_of (row_entries conv (filled i n ss p) no_entries)
+  all-places i zero no_more p = refl
+  all-places i zero (schema s ss) p = refl
+  all-places i (suc n) no_more p = further i (suc n) p
+  all-places i (suc n) (schema s ss) p = ap (λ es. conv (child (codes "items" ∷ place i ∷ []) s) ∷ es) (all-places (suc i) n ss p)
+
+  filled-known : (i n : ℕ) (ss : Schemas) (p : Part) → AllParts Conv (listed_parts i n ss ++ further_parts (unlisted n ss) p) → AllParts Conv (filled i n ss p)
+  filled-known i zero ss p c = tt
+  filled-known i (suc n) no_more p c = each i (suc n) c.0
+    where
+      each : (i n : ℕ) → Conv p → AllParts Conv (filled i n no_more p)
+      each i zero c = tt
+      each i (suc n) c = (c, each (suc i) n c)
+  filled-known i (suc n) (schema s ss) p c = (c.0, filled-known (suc i) n ss p c.1)
+
+  tuple-agrees : (i n : ℕ) (ss : Schemas) (rest : MaybeSchema) → AllParts Conv (filled i n ss (part_at (codes "additionalItems") rest))
       → (xs : Items) (js : List Judge) (ks : List entry.Judge) → ItemsMatch way st R xs js ks
-      → Keeps way (by_places js ss rest && has_length n ks) (in_places (entries_of (row_entries conv (filled i n ss (part_at (codes "additionalItems") rest)))) ks)
+      → Keeps way (by_places js ss rest && has_length n ks) (in_places (entries_of (row_entries conv (filled i n ss (part_at (codes "additionalItems") rest)) no_entries)) ks)
   tuple-agrees i zero ss rest e end_items [] [] h = keep-equal way true true refl
   tuple-agrees i zero ss rest e (value.item v vs) (j ∷ js) (k ∷ ks) h = keep-equal way _ _ (and_false (by_places (j ∷ js) ss rest))
   tuple-agrees i (suc n) no_more rest e end_items [] [] h = keep-equal way false false refl
@@ -140,14 +171,21 @@ module _ (way : Way) (st : Setting) (R : Schema → Entry → Type 0) (conv : Pa
   tuple-agrees i n ss rest e (value.item v vs) [] ks h = absurd h
   tuple-agrees i n ss rest e (value.item v vs) (j ∷ js) [] h = absurd h
 
-  pub places-agree : (n : ℕ) (ss : Schemas) (rest contains : MaybeSchema) (c : ListRules) → fixed_size c contains ≡ Some n → AllParts Conv (filled 0 n ss (part_at (codes "additionalItems") rest))
+  places-agree : (n : ℕ) (ss : Schemas) (rest contains : MaybeSchema) (c : ListRules) → fixed_size c contains ≡ Some n → AllParts Conv (filled 0 n ss (part_at (codes "additionalItems") rest))
       → (xs : Items) (js : List Judge) (ks : List entry.Judge) → ItemsMatch way st R xs js ks
-      → Keeps way (lists_agree xs js (lists (by_place ss) rest contains c)) (in_places (entries_of (row_entries conv (filled 0 n ss (part_at (codes "additionalItems") rest)))) ks)
+      → Keeps way (lists_agree xs js (lists (by_place ss) rest contains c)) (in_places (entries_of (row_entries conv (filled 0 n ss (part_at (codes "additionalItems") rest)) no_entries)) ks)
   places-agree n ss rest contains c f e xs js ks h =
       keep-from way _ _ _
       ((λ i. by_places js ss rest && no-contains js contains (fixed-rules n contains c f).1 i && fixed-agree n contains c f xs js ks h i)
       ∙ ap (λ a. a && has_length n ks) (and_true (by_places js ss rest)))
       (tuple-agrees 0 n ss rest e xs js ks h)
+
+  pub tuple-taken : (n : ℕ) (ss : Schemas) (rest contains : MaybeSchema) (c : ListRules) → fixed_size c contains ≡ Some n → AllParts Conv (listed_parts 0 n ss ++ further_parts (unlisted n ss) (part_at (codes "additionalItems") rest))
+      → (xs : Items) (js : List Judge) (ks : List entry.Judge) → ItemsMatch way st R xs js ks
+      → Keeps way (lists_agree xs js (lists (by_place ss) rest contains c)) (in_places (entries_of (row_entries conv (listed_parts 0 n ss) (alike_entries (unlisted n ss) (conv (part_at (codes "additionalItems") rest))))) ks)
+  tuple-taken n ss rest contains c f e xs js ks h =
+      let p = part_at (codes "additionalItems") rest in
+      keep-to way _ _ _ (places-agree n ss rest contains c f (filled-known 0 n ss p e) xs js ks h) (ap (λ us. in_places us ks) (sym (all-places 0 n ss p)))
 
   -- ---- the rows
 

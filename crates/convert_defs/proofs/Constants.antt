@@ -6,22 +6,21 @@ use Rattle.json_value.specs.Value as value
 use Rattle.json_value.specs.Value.{Value, same, null, number, fraction, text, list}
 use Rattle.schema_defs.specs.declared.InstanceType.TheVariants.{Text}
 use Rattle.schema_defs.specs.Texts.{Relations}
-use Rattle.schema_defs.specs.Schema.{Types, one_type, many_types, Plain, Schema, boolean, object, Same, Lists, Named}
+use Rattle.schema_defs.specs.Schema.{Types, one_type, many_types, Plain, Schema, object, Same, Lists, Named}
 use Rattle.schema_defs.specs.Layer.{Parts, judge, judge_same, if_given, types_agree, is_listed, is_kind, of_kind_agrees, parts_agree}
 use Rattle.model_defs.specs.Layer as model
 use Rattle.entry_defs.specs.Entry.{Target, Entry}
 use Rattle.entry_defs.specs.Layer as entry
 use Rattle.convert_defs.specs.Row.{Way, Part}
-use Rattle.convert_defs.specs.Standing.{has_type, without_same, without_lists, without_named}
-use Rattle.convert_defs.specs.Shapes.{text_or_none, one_listed, constant_by, constant_text, at_most_text}
+use Rattle.enum_defs.specs.Words.{as_text, has_type, without_same}
 use Rattle.convert_defs.specs.Table.{constant_of, constant_list, constant_finding}
 use Rattle.convert_defs.proofs.Keeps.{keep-from}
 use Rattle.convert_defs.proofs.Views.{View}
-use Rattle.convert_defs.proofs.Bare.{and_left, and_right, and_true, and_false, impossible, none-some, some-same, four, same_type-eq, none-agrees, same-agrees}
-use Rattle.convert_defs.proofs.Rows.{Holds, kind-quiet, parts-quiet}
+use Rattle.convert_defs.proofs.Bare.{and_true, and_false, impossible, none-some, some-same, four, same_type-eq}
+use Rattle.convert_defs.proofs.Rows.{Holds}
 use Rattle.convert_defs.proofs.Listed.{enumerated-holds}
 
-constant-is : (o : Option Value) (s : List ℕ) → option_and_then text_or_none o ≡ Some s → o ≡ Some (text s)
+constant-is : (o : Option Value) (s : List ℕ) → option_and_then as_text o ≡ Some s → o ≡ Some (text s)
 constant-is None s h = none-some s h
 constant-is (Some null) s h = none-some s h
 constant-is (Some (value.boolean b)) s h = none-some s h
@@ -88,60 +87,6 @@ text-only (value.object ms) s h = impossible h
 
 text-typed : (o : Option Types) (v : Value) (s : List ℕ) → (is_none o || has_type Text o) ≡ true → same v (text s) ≡ true → if_given (types_agree v) o ≡ true
 text-typed o v s h e = ap (λ u. if_given (types_agree u) o) (text-only v s e) ∙ text-types o s h
-
-one-listed-is : (o : Option (List Value)) (s : List ℕ) → one_listed o ≡ Some s → o ≡ Some (text s ∷ [])
-one-listed-is None s h = none-some s h
-one-listed-is (Some []) s h = none-some s h
-one-listed-is (Some (null ∷ [])) s h = none-some s h
-one-listed-is (Some (value.boolean b ∷ [])) s h = none-some s h
-one-listed-is (Some (number z ∷ [])) s h = none-some s h
-one-listed-is (Some (fraction ∷ [])) s h = none-some s h
-one-listed-is (Some (text t ∷ [])) s h = ap (λ u. Some (text u ∷ [])) (some-same t s h)
-one-listed-is (Some (list xs ∷ [])) s h = none-some s h
-one-listed-is (Some (value.object ms ∷ [])) s h = none-some s h
-one-listed-is (Some (v ∷ w ∷ vs)) s h = none-some s h
-
-or_none : (b : Bool) → (b || false) ≡ b
-or_none true = refl
-or_none false = refl
-
--- the constant or the one listed
-by-constant : (v : Value) (s : List ℕ) (c : Option Value) (e : Option (List Value)) → constant_by c e ≡ Some s → (if_given (is_listed v) e && if_given (same v) c) ≡ same v (text s)
-by-constant v s (Some w) None h = ap (if_given (same v)) (constant-is (Some w) s h)
-by-constant v s (Some w) (Some vs) h = none-some s h
-by-constant v s None e h = ap (λ o. if_given (is_listed v) o && true) (one-listed-is e s h) ∙ and_true (same v (text s) || false) ∙ or_none (same v (text s))
-
-ordered : (t l c : Bool) → (t && l && c && true && true && true && true) ≡ (t && (l && c))
-ordered true true true = refl
-ordered true true false = refl
-ordered true false c = refl
-ordered false l c = refl
-
-pub constant-judged : (r : Relations) (v : Value) (ps : Parts) (fol : List ℕ → Bool) (u : Schema) (s : List ℕ) → constant_text u ≡ Some s → judge r v ps fol u ≡ same v (text s)
-constant-judged r v ps fol (boolean b) s h = none-some s h
-constant-judged r v ps fol (object p ss ls ns) s h = by (at_most_text p ss ls ns) refl h
-  where
-    by : (b : Bool) → at_most_text p ss ls ns ≡ b → (cond b (constant_by p.const_value p.enum_values) None) ≡ Some s → judge r v ps fol (object p ss ls ns) ≡ same v (text s)
-    by false e k = none-some s k
-    by true e k =
-        let f = four ((is_none p.types || has_type Text p.types) && is_none p.format && is_none p.numbers && is_none p.texts && is_none p.reference) (without_same ss) (without_lists ls) (without_named ns) e in
-        let g = four (is_none p.types || has_type Text p.types) (is_none p.format) (is_none p.numbers) (is_none p.texts && is_none p.reference) (regrouped (is_none p.types || has_type Text p.types) (is_none p.format) (is_none p.numbers) (is_none p.texts) (is_none p.reference) f.0) in
-        let x = kind-quiet r p g.1 g.2 (and_left _ _ g.3) v in
-        let y = none-agrees fol p.reference (and_right (is_none p.texts) _ g.3) in
-        let z = parts-quiet r ps ls ns f.2 f.3 v in
-        let w = same-agrees r v ps fol ss f.1 in
-        (λ i. if_given (types_agree v) p.types && if_given (is_listed v) p.enum_values && if_given (same v) p.const_value && x i && y i && z i && w i)
-        ∙ ordered (if_given (types_agree v) p.types) (if_given (is_listed v) p.enum_values) (if_given (same v) p.const_value)
-        ∙ ap (λ b. if_given (types_agree v) p.types && b) (by-constant v s p.const_value p.enum_values k)
-        ∙ one-text v s (if_given (types_agree v) p.types) true (text-typed p.types v s g.0)
-      where
-        regrouped : (a b c x y : Bool) → (a && b && c && x && y) ≡ true → (a && b && c && (x && y)) ≡ true
-        regrouped true true true true true h = refl
-        regrouped true true true true false h = impossible h
-        regrouped true true true false y h = impossible h
-        regrouped true true false x y h = impossible h
-        regrouped true false c x y h = impossible h
-        regrouped false b c x y h = impossible h
 
 module _ (way : Way) (P : List ℕ → Type 0) (st : Setting) (R : Schema → Entry → Type 0) (conv : Part → Entry) (r : Relations) (fol : List ℕ → Bool) (tgt : Target → Bool) (p : Plain) (ss : Same) (ls : Lists) (ns : Named) (v : Value) (ps : Parts) (es : model.Parts entry.Judge) (w : View way st R r v ps es) where
   module _ (s : List ℕ) (e : p.const_value ≡ Some (text s)) (h : (is_none p.types || has_type Text p.types) ≡ true) where

@@ -15,18 +15,20 @@ use Rattle.schema_defs.specs.Layer.{Parts, judge, judge_any, judge_count, judge_
 use Rattle.model_defs.specs.Model.{external_tag}
 use Rattle.model_defs.specs.Layer as model
 use Rattle.model_defs.specs.Layer.{MemberPart, no_parts, list_parts, object_parts, is_text}
-use Rattle.entry_defs.specs.Entry.{Target, Entry, boolean_entry, integer_entry, text_entry, native_entry, any_entry, unit_entry, option_entry, vec_entry, set_entry, map_entry, tuple_entry, array_entry, reference, item, no_entries, entry_then, Shape, struct_shape, enum_shape, newtype_shape, no_rest, rest, newtype_contents, struct_contents, VariantEntry, variants_of}
+use Rattle.entry_defs.specs.Entry.{Target, Entry, boolean_entry, integer_entry, text_entry, native_entry, any_entry, unit_entry, option_entry, vec_entry, set_entry, map_entry, tuple_entry, array_entry, reference, item, Shape, struct_shape, enum_shape, newtype_shape, rest_of, newtype_contents, tuple_contents, struct_contents, VariantEntry, variants_of}
 use Rattle.entry_defs.specs.Layer as entry
 use Rattle.entry_defs.specs.Layer.{entry_takes, variant_named, is_unit, is_unit_named, contents_entry, contents_take, external_takes}
 use Rattle.entry_defs.specs.Members.{has_member, AreMembers}
+use Rattle.enum_defs.specs.Shapes as shape
 use Rattle.convert_defs.specs.Row.{Way, narrowed, widened, string_note, open_branch_note, Note, Part, of_branch, by_contents, enum_row, VariantBody, unit_body, part_body, fields_body, body_parts, VariantRow, variants_parts}
-use Rattle.convert_defs.specs.Standing.{has_type, without_same, without_lists, is_bare}
+use Rattle.enum_defs.specs.Words.{has_type, without_same, without_lists, is_bare, is_name, names_of, all_some}
 use Rattle.convert_defs.specs.Scalars.{texts_in}
-use Rattle.convert_defs.specs.Owners.{is_name}
-use Rattle.convert_defs.specs.Shapes.{Member, members_from, is_closed as is_closed_rest, ObjectShape, object_shape, shape_of_named, names_of, are_distinct, all_some, unit_rows, listed_texts, text_case, lone_property, property_row, one_property, case_or, external_case, if_distinct, external_shape}
+use Rattle.convert_defs.proofs.PlacedShapes.{ObjectShape, object_shape, shape_of_named, are_distinct, unit_rows, listed_texts, text_case, lone_property, property_row, one_property, case_or, external_case, if_distinct, external_shape}
+use Rattle.convert_defs.specs.Shapes.{external_members, case_row, Member, members_from}
+use Rattle.enum_defs.specs.Shapes.{closed_by as is_closed_rest, text_cases}
 use Rattle.convert_defs.specs.Apart.{differ}
 use Rattle.convert_defs.specs.Table.{is_open_shape, is_open_object, open_branches, has_text_keywords, is_ruled_text, text_branches, one_of_external}
-use Rattle.convert_defs.specs.Convert.{content_of, same_flag, body_content, row_variants, is_closed, entry_of}
+use Rattle.convert_defs.specs.Convert.{same_flag, is_without_rest, has_two_places, content_of, body_content, row_variants, is_closed, entry_of}
 use Rattle.convert_defs.specs.Laws.{Keeps, same_way, Free}
 use Rattle.convert_defs.proofs.Keeps.{keep-equal, keep-from, keep-to, keep-wider, free-left, free-right}
 use Rattle.convert_defs.proofs.Bare.{and_left, and_right, and_true, and_false, impossible, none-some, some-same, none-agrees, same-agrees, four, same_type-eq, or_left, or_right}
@@ -39,6 +41,7 @@ use Rattle.convert_defs.proofs.Nullable.{some-counted}
 use Rattle.convert_defs.proofs.ObjectShapes.{bound_member, bound_judge, bound-judged}
 use Rattle.convert_defs.proofs.OneOf.{One, Counted}
 use Rattle.convert_defs.proofs.Differ.{distinct-differ, first-only, last-differ, head-alone}
+use Rattle.convert_defs.proofs.SameShapes.{placed, shape-same, text-same, external-found}
 
 abbrev pub names : List VariantRow → List (List ℕ)
 names [] = []
@@ -82,16 +85,17 @@ branch-free way f p m ms h = by (p m) h
 
 -- a part makes no unit
 part-no-unit : (closed : Bool) (e : Entry) → is_unit (content_of external_tag closed e) ≡ false
-part-no-unit closed (tuple_entry no_entries) = refl
-part-no-unit closed (tuple_entry (entry_then e no_entries)) = refl
-part-no-unit closed (tuple_entry (entry_then e (entry_then f us))) = refl
-part-no-unit closed unit_entry = refl
-part-no-unit closed (item l (struct_shape c fs no_rest)) = by (same_flag c closed)
+part-no-unit closed (tuple_entry us) = by (has_two_places us)
   where
-    by : (b : Bool) → is_unit (if b then struct_contents fs else newtype_contents (item l (struct_shape c fs no_rest))) ≡ false
+    by : (b : Bool) → is_unit (if b then tuple_contents us else newtype_contents (tuple_entry us)) ≡ false
     by true = refl
     by false = refl
-part-no-unit closed (item l (struct_shape c fs (rest i e))) = refl
+part-no-unit closed unit_entry = refl
+part-no-unit closed (item l (struct_shape c fs)) = by (same_flag c closed && is_without_rest (rest_of fs))
+  where
+    by : (b : Bool) → is_unit (if b then struct_contents fs else newtype_contents (item l (struct_shape c fs))) ≡ false
+    by true = refl
+    by false = refl
 part-no-unit closed (item l (enum_shape c t ws)) = refl
 part-no-unit closed (item l (newtype_shape e u)) = refl
 part-no-unit closed boolean_entry = refl
@@ -535,11 +539,17 @@ module _ (way : Way) (P : List ℕ → Type 0) (st : Setting) (R : Schema → En
         by false g = none-some o g
 
     closed-shape : (m : Member) (o : ObjectShape) → object_shape m ≡ Some o → is_open_object m ≡ false → o.closed ≡ true
-    closed-shape m o e h = not-not o.closed (sym (ap is_open_shape e) ∙ h)
+    closed-shape m o e h = not-not o.closed (opened (shape.object_shape m.1) refl)
       where
         not-not : (b : Bool) → not b ≡ false → b ≡ true
         not-not true h = refl
         not-not false h = absurd (true≢false h)
+
+        opened : (x : Option shape.ObjectShape) → shape.object_shape m.1 ≡ x → not o.closed ≡ false
+        opened None f = none-some o (ap (option_map (placed m.0)) (sym f) ∙ sym (shape-same m.0 m.1) ∙ e)
+        opened (Some q) f =
+            let k = some-same (placed m.0 q) o (ap (option_map (placed m.0)) (sym f) ∙ sym (shape-same m.0 m.1) ∙ e) in
+            ap (λ x. not x.closed) (sym k) ∙ ap is_open_shape (sym f) ∙ h
 
     abbrev Sound : List VariantRow → Type 0
     Sound ws = AllParts (IsSound way P st R conv r fol tgt v ps es w) (variants_parts ws)
@@ -574,8 +584,12 @@ module _ (way : Way) (P : List ℕ → Type 0) (st : Setting) (R : Schema → En
             tested true h g = rows h (listed_texts p.const_value p.enum_values) refl g
             tested false h g = none-some x g
 
+        noted : (x : List VariantRow) (o : Option (List shape.Case)) → text_cases u ≡ o → text_case u ≡ Some x → (true && has_text_keywords u) ≡ (is_some (text_cases u) && has_text_keywords u)
+        noted x None f g = none-some x (ap (option_map (map (case_row l))) (sym f) ∙ sym (text-same l u) ∙ g)
+        noted x (Some cs) f g = ap (λ o. is_some o && has_text_keywords u) (sym f)
+
         by : (o : Option (List VariantRow)) → text_case u ≡ o → case_or o (object_shape (l, u)) ≡ Some ws → Facts u ws
-        by (Some x) f g = subst (Facts u) (some-same x ws g) (texts u x f (λ y. sym (ap (λ o. is_some o && has_text_keywords u) f) ∙ z.1 y))
+        by (Some x) f g = subst (Facts u) (some-same x ws g) (texts u x f (λ y. noted x (text_cases u) refl f ∙ z.1 y))
         by None f g = shaped (object_shape (l, u)) refl g
 
     -- member by member
@@ -683,8 +697,8 @@ module _ (way : Way) (P : List ℕ → Type 0) (st : Setting) (R : Schema → En
             by None k t = impossible (sym (none-says conv v es (all_rows wss) k) ∙ t)
             by (Some n) k t = one-counted (ap (λ m. same_way m widened) e) n k us wss h d t
 
-    pub external-holds : (d : Document) (name : List ℕ) (k : Step) (us : Schemas) (ws : List VariantRow) → external_shape (members_from k 0 us) ≡ Some ws → One way P st R conv r fol tgt v ps es w name us (one_of_external d (members_from k 0 us) (Some ws))
-    external-holds d name k us ws e = λ g0 c q. by (all_some external_case (members_from k 0 us)) refl e c q
+    placed-holds : (d : Document) (name : List ℕ) (k : Step) (us : Schemas) (ws : List VariantRow) → external_shape (members_from k 0 us) ≡ Some ws → One way P st R conv r fol tgt v ps es w name us (one_of_external d (members_from k 0 us) (Some ws))
+    placed-holds d name k us ws e = λ g0 c q. by (all_some external_case (members_from k 0 us)) refl e c q
       where
         ms : List Member
         ms = members_from k 0 us
@@ -704,3 +718,6 @@ module _ (way : Way) (P : List ℕ → Type 0) (st : Setting) (R : Schema → En
             → Keeps way (Counted way P st R conv r fol tgt v ps es w us) (entry_takes r v es tgt (entry_of conv name (enum_row external_tag by_contents ws)))
         by None f g c q = none-some ws g
         by (Some wss) f g c q = tested wss f c.0 (are_distinct (map (λ w. w.name) (all_rows wss))) refl g q
+
+    pub external-holds : (d : Document) (name : List ℕ) (k : Step) (us : Schemas) (ws : List VariantRow) → external_members (members_from k 0 us) ≡ Some ws → One way P st R conv r fol tgt v ps es w name us (one_of_external d (members_from k 0 us) (Some ws))
+    external-holds d name k us ws e = placed-holds d name k us ws (external-found (members_from k 0 us) ws e)

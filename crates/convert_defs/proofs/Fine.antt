@@ -17,20 +17,24 @@ use Rattle.entry_defs.specs.Entry.{Target, Entry, reference, unit_entry}
 use Rattle.entry_defs.specs.Sound.{Each, EachVariant}
 use Rattle.entry_defs.specs.Ends.{Asked, AskedByShape}
 use Rattle.convert_defs.specs.Row.{names_note, Part, made, FieldRow, VariantBody, unit_body, part_body, fields_body, VariantRow, Row, leaf_row, as_it_is_row, option_row, ruled_row, vec_row, set_row, map_row, struct_row, enum_row, refused_row, plainly, asking, bad_array, bad_value, mixed_enum, names as names_cause, nested_enum, noted, here, narrowed, widened, null_note, not_note, bad_not, string_note}
-use Rattle.convert_defs.specs.Standing.{of_type, less_enum, alone, no_keyword, same_type, has_type, without_same, without_lists, is_bare}
+use Rattle.convert_defs.specs.Standing.{of_type, less_enum, alone, no_keyword}
+use Rattle.enum_defs.specs.Words.{same_type, has_type, without_same, without_lists, is_bare, is_name, all_some, names_of}
 use Rattle.convert_defs.specs.Scalars.{texts_entry, nullable_texts, listed_entry, unit_variants, never_entry, ruled_text, text_finding, given_format, wanted_of, enumerated, kept_texts, boolean_finding, listed_alone, is_owner, is_number, distinct, texts_in, without_nulls}
-use Rattle.convert_defs.specs.Owners.{is_shut, are_alike, pattern_row, pattern_names, array_finding, object_finding, sized_finding, fixed_size, fixed_row, open_list, is_true, is_by_place, no_property, is_empty, is_false, names_texts, map_of, struct_of, each_part, property_fields, other_part, is_name, name_part, counts_notes, names_notes, list_notes}
-use Rattle.convert_defs.specs.Shapes.{Member, members_from, option_shape, external_shape, external_case, text_case, listed_texts, unit_rows, one_property, object_shape, ObjectShape, shape_of_named, all_some, if_distinct, are_distinct, adjacent_shape, adjacent_by, adjacent_with, adjacent_variant, all_names, are_all_required, is_tag, tag_texts, internal_shape, internal_by, internal_variant, first_names, TaggedShape, branch_fields, body_of_field, body_of_fields, less_property, placed_field, names_of, is_null_schema, only_one, is_closed, lone_property, property_row, case_or}
+use Rattle.convert_defs.specs.Owners.{is_shut, are_alike, pattern_row, pattern_names, array_finding, object_finding, sized_finding, fixed_size, fixed_row, open_list, is_true, is_by_place, no_property, is_empty, is_false, names_texts, map_of, struct_of, each_part, property_fields, other_part, name_part, counts_notes, names_notes, list_notes}
+use Rattle.convert_defs.proofs.PlacedShapes.{external_case, text_case, listed_texts, unit_rows, one_property, object_shape, ObjectShape, shape_of_named, if_distinct, are_distinct, adjacent_variant, internal_variant, branch_fields, lone_property, property_row, case_or}
+use Rattle.convert_defs.specs.Shapes.{Member, schemas_of, external_members, members_from, option_member as option_shape, adjacent_members as adjacent_shape, internal_members as internal_shape, TaggedShape, body_of_field, body_of_fields, less_property, placed_field}
+use Rattle.enum_defs.specs.Shapes.{is_null_schema, the_only as only_one, closed_by as is_closed}
 use Rattle.convert_defs.specs.Apart.{differ, names_apart, is_apart, all_apart, branches_apart}
-use Rattle.convert_defs.specs.Kinds.{exclusive}
+use Rattle.enum_defs.specs.Exclusive.{exclusive}
 use Rattle.convert_defs.specs.Table.{Line, lines, first_line, nullable, type_beside_null, lists_only_nulls, reference_row, row_of_target, target_of, allowed_row, listed, with_type, only_type, type_variant, type_among, of_kinds, variant_order, subschema_finding, finding_or, all_of_finding, any_of_finding, any_of_others, one_of_finding, not_finding, deny, under_not, denied, type_of_listed, has_one_type, no_others, member_part, untagged_row, untagged_variant, only_member, constant_of, constant_finding, constant_list, beside_null, lone_part, row_of, one_of_only, one_of_internal, one_of_adjacent, one_of_external, one_of_option}
-use Rattle.convert_defs.proofs.Apart.{names_in, fields-apart, of-properties}
+use Rattle.convert_defs.proofs.Apart.{names_in, names_outside, struct-apart, of-properties}
 use Rattle.convert_defs.specs.IntegerRow.{note_if}
 use Rattle.convert_defs.specs.Laws.{HasNamesApart}
 use Rattle.convert_defs.proofs.Views.{schema_of}
 use Rattle.convert_defs.proofs.Bare.{and_left, and_right, none-some, some-same}
 use Rattle.convert_defs.proofs.Nullable.{option-refs}
 use Rattle.schema_defs.proofs.Spare.{Refs, RefsSame, RefsAll}
+use Rattle.convert_defs.proofs.SameShapes.{whole, external-found, internal-found, adjacent-found}
 
 -- an entry without references
 abbrev pub Quiet : Entry → Type 0
@@ -63,7 +67,7 @@ module _ (P : List ℕ → Type 0) where
   Fine s (as_it_is_row p) = Inherits s p
   Fine s (option_row p) = Inherits s p
   Fine s (ruled_row p u) = Inherits s p
-  Fine s (struct_row c fs o) = differ (names_in fs) ≡ true
+  Fine s (struct_row c fs o) = differ (names_in fs ++ names_outside o) ≡ true
   Fine s (enum_row tag c ws) = BodiesFine s tag ws
   Fine s _ = Unit {0}
 
@@ -163,7 +167,7 @@ module _ (P : List ℕ → Type 0) where
     -- ---- owners
 
     names-fine : (props : Properties) (others : MaybeSchema) (rules : MemberRules) → differ (names_of props) ≡ true → differ rules.required ≡ true → Fine s (struct_of d.setting props others rules)
-    names-fine props others rules h g = fields-apart d.setting rules.required props (other_part others) h g
+    names-fine props others rules h g = struct-apart d.setting rules.required props others h g
 
     map-fine : (others names : MaybeSchema) → Fine s (map_of others names)
     map-fine others names = by (names_texts names)
@@ -328,8 +332,8 @@ module _ (P : List ℕ → Type 0) where
             subst (λ x. BodiesFine s external_tag (flat_map (λ ws. ws) x)) (some-same (ws ∷ us) wss (ap (option_map (λ ys. ws ∷ ys)) (sym g) ∙ h))
             (both-fine external_tag ws (flat_map (λ ws. ws) us) (external-one m ws f) (rec us g))
 
-    external-fine : (ms : List Member) (ws : List VariantRow) → external_shape ms ≡ Some ws → BodiesFine s external_tag ws
-    external-fine ms ws e = by (all_some external_case ms) refl e
+    external-fine : (ms : List Member) (ws : List VariantRow) → external_members ms ≡ Some ws → BodiesFine s external_tag ws
+    external-fine ms ws e = by (all_some external_case ms) refl (external-found ms ws e)
       where
         distinct_ones : (us : List VariantRow) → if_distinct us ≡ Some ws → BodiesFine s external_tag us → BodiesFine s external_tag ws
         distinct_ones us h g = tested (are_distinct (map (λ w. w.name) us)) h
@@ -417,15 +421,9 @@ module _ (P : List ℕ → Type 0) where
     internal-all t (o ∷ os) h = (body-fine t (branch_fields d.setting t o) (branch-names t o h.0), internal-all t os h.1)
 
     internal-fine : (k : Step) (us : Schemas) (t : TaggedShape) → all_apart us ≡ true → internal_shape d.setting (members_from k 0 us) ≡ Some t → BodiesFine s (internal_tag t.tag) t.variants
-    internal-fine k us t a e = by (all_some object_shape (members_from k 0 us)) refl e
-      where
-        tagged : (os : List ObjectShape) (ns : List (List ℕ)) → AllApart os → internal_by d.setting os ns ≡ Some t → BodiesFine s (internal_tag t.tag) t.variants
-        tagged os [] h g = none-some t g
-        tagged os (n ∷ ns) h g = subst (λ x. BodiesFine s (internal_tag x.tag) x.variants) (some-same _ t g) (internal-all n os h)
-
-        by : (x : Option (List ObjectShape)) → all_some object_shape (members_from k 0 us) ≡ x → option_and_then (λ os. internal_by d.setting os (filter (is_tag os) (first_names os))) x ≡ Some t → BodiesFine s (internal_tag t.tag) t.variants
-        by None f h = none-some t h
-        by (Some os) f h = tagged os (filter (is_tag os) (first_names os)) (shapes-apart k 0 us os a f) h
+    internal-fine k us t a e =
+        let f = internal-found d.setting (members_from k 0 us) t e in
+        subst (λ x. BodiesFine s (internal_tag x.tag) x.variants) (sym f.made) (internal-all f.tag (map whole (members_from k 0 us)) (shapes-apart k 0 us (map whole (members_from k 0 us)) a f.shapes))
 
     content-fine : (t c : List ℕ) (fs : List FieldRow) → BodyFine s (adjacent_tag t c) (body_of_field fs)
     content-fine t c [] = tt
@@ -436,26 +434,9 @@ module _ (P : List ℕ → Type 0) where
     adjacent-all t c n (o ∷ os) = (content-fine t c (branch_fields Strict n o), adjacent-all t c n os)
 
     adjacent-fine : (ms : List Member) (t : TaggedShape) → adjacent_shape ms ≡ Some t → BodiesFine s (adjacent_tag t.tag t.content) t.variants
-    adjacent-fine ms t e = by (all_some object_shape ms) e
-      where
-        this : (os : List ObjectShape) (a b : List ℕ) → Some (adjacent_with os a b) ≡ Some t → BodiesFine s (adjacent_tag t.tag t.content) t.variants
-        this os a b h = subst (λ x. BodiesFine s (adjacent_tag x.tag x.content) x.variants) (some-same (adjacent_with os a b) t h) (adjacent-all a b a os)
-
-        tested : (os : List ObjectShape) (a b : List ℕ) (x y z : Bool) → (if x then None else if y then Some (adjacent_with os a b) else if z then Some (adjacent_with os b a) else None) ≡ Some t → BodiesFine s (adjacent_tag t.tag t.content) t.variants
-        tested os a b true y z h = none-some t h
-        tested os a b false true z h = this os a b h
-        tested os a b false false true h = this os b a h
-        tested os a b false false false h = none-some t h
-
-        two : (os : List ObjectShape) (ns : List (List ℕ)) → adjacent_by os ns ≡ Some t → BodiesFine s (adjacent_tag t.tag t.content) t.variants
-        two os [] h = none-some t h
-        two os (a ∷ []) h = none-some t h
-        two os (a ∷ b ∷ []) h = tested os a b (not (list_all are_all_required os)) (is_tag os a && not (is_some (tag_texts os b))) (is_tag os b && not (is_some (tag_texts os a))) h
-        two os (a ∷ b ∷ c ∷ ns) h = none-some t h
-
-        by : (x : Option (List ObjectShape)) → option_and_then (λ os. adjacent_by os (all_names os)) x ≡ Some t → BodiesFine s (adjacent_tag t.tag t.content) t.variants
-        by None h = none-some t h
-        by (Some os) h = two os (all_names os) h
+    adjacent-fine ms t e =
+        let f = adjacent-found ms t e in
+        subst (λ x. BodiesFine s (adjacent_tag x.tag x.content) x.variants) (sym f.made) (adjacent-all f.tag f.content f.tag (map whole ms))
 
     -- ---- one of, any of, all of, not
 
@@ -482,13 +463,13 @@ module _ (P : List ℕ → Type 0) where
         adjacent (Some t) e = adjacent-fine ms t e
         adjacent None e = internal (internal_shape d.setting ms) refl
 
-        external : (x : Option (List VariantRow)) → external_shape ms ≡ x → Fine s (one_of_external d ms x).row
+        external : (x : Option (List VariantRow)) → external_members ms ≡ x → Fine s (one_of_external d ms x).row
         external (Some ws) e = external-fine ms ws e
         external None e = adjacent (adjacent_shape ms) refl
 
         optional : (x : Option Member) → option_shape ms ≡ x → Fine s (one_of_option d ms x).row
         optional (Some m) e = option-fine k us m e f
-        optional None e = external (external_shape ms) refl
+        optional None e = external (external_members ms) refl
 
     any-of-fine : (n : List ℕ) (us : Schemas) → all_apart us ≡ true → (Refs P s → RefsAll P us) → Fine s (any_of_finding d n (members_from (codes "anyOf") 0 us)).row
     any-of-fine n no_more a f = inl (never-quiet n)
@@ -499,7 +480,7 @@ module _ (P : List ℕ → Type 0) where
         apart false = untagged-fine (codes "anyOf") 0 (schema u us) f
 
         by : (x : Option Member) → option_shape (members_from (codes "anyOf") 0 (schema u us)) ≡ x → Fine s (any_of_others d n (members_from (codes "anyOf") 0 (schema u us)) x).row
-        by None e = apart (exclusive d (members_from (codes "anyOf") 0 (schema u us)))
+        by None e = apart (exclusive d (schemas_of (members_from (codes "anyOf") 0 (schema u us))))
         by (Some m) e = option-fine (codes "anyOf") (schema u us) m e f
 
     all-of-fine : (us : Schemas) → (Refs P s → RefsAll P us) → Fine s (all_of_finding (members_from (codes "allOf") 0 us)).row

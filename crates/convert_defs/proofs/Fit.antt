@@ -1,6 +1,6 @@
 -- The table of a document: what its rows make leads on and comes to an end.
 use Rattle.schema_defs.specs.declared.Setting.TheVariants.{Strict}
-use Rattle.std.proofs.Common.{◌≡◌, ℕ, zero, suc, List, [], ◌∷◌, ◌++◌, map, Bool, true, false, ◌||◌, Option, Some, None, option_map, inl, inr, refl, sym, ap, ◌∙◌, subst, bytes_eq}
+use Rattle.std.proofs.Common.{◌≡◌, ℕ, zero, suc, List, [], ◌∷◌, ◌++◌, map, Bool, true, false, ◌&&◌, ◌||◌, Option, Some, None, option_map, inl, inr, refl, sym, ap, ◌∙◌, subst, bytes_eq}
 use Rattle.std.specs.Prelude.{if◌then◌else◌, is_some}
 use Rattle.std.specs.List.{AllByRecursion}
 use Rattle.schema_defs.specs.Location.{Location}
@@ -11,27 +11,27 @@ use Rattle.schema_defs.specs.Admits.{target, definition_location, defined, defin
 use Rattle.schema_defs.proofs.Spare.{Refs, Given, Ends as SchemaEnds}
 use Rattle.schema_defs.proofs.Guarded.{all_end}
 use Rattle.model_defs.specs.Model.{TagModel, external_tag, internal_tag, adjacent_tag, untagged}
-use Rattle.entry_defs.specs.Entry.{Target, the_root, definition, Entry, boolean_entry, integer_entry, text_entry, native_entry, any_entry, unit_entry, option_entry, vec_entry, set_entry, map_entry, tuple_entry, array_entry, reference, item, no_entries, entry_then, Shape, struct_shape, enum_shape, newtype_shape, no_rest, rest, Variants, no_variants, variant_then, Contents, unit_contents, newtype_contents, tuple_contents, struct_contents, fields_of}
+use Rattle.entry_defs.specs.Entry.{Target, the_root, definition, Entry, boolean_entry, integer_entry, text_entry, native_entry, any_entry, unit_entry, option_entry, vec_entry, set_entry, map_entry, tuple_entry, array_entry, reference, item, Entries, Shape, struct_shape, enum_shape, newtype_shape, Fields, rest_of, no_fields, Variants, no_variants, variant_then, Contents, unit_contents, newtype_contents, tuple_contents, struct_contents, fields_of}
 use Rattle.entry_defs.specs.Table.{ItemEntry, TargetEntry, Table, found, target_item}
 use Rattle.entry_defs.specs.Members.{names_differ}
-use Rattle.entry_defs.specs.Sound.{Each, EachEntry, EachInShape, EachField, EachInRest, EachVariant, EachInContents, Leads}
+use Rattle.entry_defs.specs.Sound.{Each, EachEntry, EachInShape, EachField, EachVariant, EachInContents, Leads}
 use Rattle.entry_defs.specs.Ends.{Asked, AskedByShape, AskedByVariants, AskedByContents, IfLed, EndsWithin, Ends}
 use Rattle.entry_defs.proofs.Each.{each_weaker}
 use Rattle.naming_defs.specs.Laws.{IsFit}
-use Rattle.convert_defs.specs.Row.{narrowed, Part, child, of_branch, lone, made, FieldRow, field_parts, option_parts, VariantBody, unit_body, part_body, fields_body, body_parts, VariantRow, variants_parts, Closing, Row, leaf_row, as_it_is_row, option_row, ruled_row, vec_row, set_row, array_row, tuple_row, map_row, pattern_map_row, struct_row, enum_row, merged_row, refused_row, row_parts}
+use Rattle.convert_defs.specs.Row.{narrowed, Part, child, of_branch, lone, made, FieldRow, field_parts, OutsideRow, outside_parts, further_parts, VariantBody, unit_body, part_body, fields_body, body_parts, VariantRow, variants_parts, Closing, Row, leaf_row, as_it_is_row, option_row, ruled_row, vec_row, set_row, array_row, tuple_row, map_row, pattern_map_row, struct_row, enum_row, merged_row, refused_row, row_parts}
 use Rattle.convert_defs.specs.Table.{finding_of, row_of, target_of}
 use Rattle.convert_defs.specs.Shapes.{Member}
 use Rattle.convert_defs.specs.Apart.{differ}
 use Rattle.convert_defs.specs.RootReference.{is_root, root_in_same, root_in_lists, root_in_named, refers_to_root}
-use Rattle.convert_defs.specs.Convert.{Handed, Converts, named_by, most_made, same_flag, unit_in, content_of, labeled, nullable_entry, row_fields, row_entries, row_variants, rest_entry, body_content, is_closed, entry_of, part_entry, made_within, raw_entry, past_branch, as_item, definition_entry, root_entry, definition_target, root_name, root_targets, root_use, table_of, Node, Tree, cut_branches, tree, inner_tree, made_tree, parts_tree, definition_tree, definition_trees, root_tree}
+use Rattle.convert_defs.specs.Convert.{Handed, Converts, named_by, most_made, same_flag, is_without_rest, has_two_places, unit_in, content_of, labeled, nullable_entry, row_fields, row_entries, row_variants, alike_fields, alike_entries, outside_fields, body_content, is_closed, entry_of, part_entry, made_within, raw_entry, past_branch, as_item, definition_entry, root_entry, definition_target, root_name, root_targets, root_use, table_of, Node, Tree, cut_branches, tree, inner_tree, made_tree, parts_tree, definition_tree, definition_trees, root_tree}
 use Rattle.convert_defs.specs.Laws.{AllNodes, IsRead, IsOfDocument, TablesAreFit}
 use Rattle.convert_defs.specs.Proper.{leads}
 use Rattle.convert_defs.proofs.Bare.{none-some, some-same}
 use Rattle.convert_defs.proofs.Views.{schema_of, AllParts}
 use Rattle.convert_defs.proofs.Inside.{tree-is-read}
 use Rattle.convert_defs.proofs.Rows.{parts-left, parts-right}
-use Rattle.convert_defs.proofs.Apart.{names_in}
-use Rattle.convert_defs.proofs.Objects.{same-differ}
+use Rattle.convert_defs.proofs.Apart.{names_in, names_outside}
+use Rattle.convert_defs.proofs.Objects.{same-differ, differ-names, all-named-once}
 use Rattle.convert_defs.proofs.References.{refs-both, known-refs}
 use Rattle.convert_defs.proofs.Targets.{root-last, root-led, no-definition, no-target, leads-on}
 use Rattle.convert_defs.proofs.Fine.{own, BodyFine, BodiesFine, LeafFine, Fine, finding-fine}
@@ -57,7 +57,7 @@ module _ (Q S : Target → Type 0) (q : (x : Target) → Q x → S x) where
     asked-weaker unit_entry x = tt
 
     pub shape-weaker : (h : Shape) → AskedByShape Q h → AskedByShape S h
-    shape-weaker (struct_shape closed fs o) x = tt
+    shape-weaker (struct_shape closed fs) x = tt
     shape-weaker (enum_shape closed external_tag ws) x = tt
     shape-weaker (enum_shape closed (internal_tag t) ws) x = tt
     shape-weaker (enum_shape closed (adjacent_tag t c) ws) x = tt
@@ -78,16 +78,17 @@ module _ (Q S : Target → Type 0) (q : (x : Target) → Q x → S x) where
 
 module _ (Q : Target → Type 0) where
   content-asked : (closed : Bool) (e : Entry) → Asked Q e → AskedByContents Q (content_of untagged closed e)
-  content-asked closed (tuple_entry no_entries) x = tt
-  content-asked closed (tuple_entry (entry_then e no_entries)) x = tt
-  content-asked closed (tuple_entry (entry_then e (entry_then f us))) x = tt
-  content-asked closed unit_entry x = tt
-  content-asked closed (item l (struct_shape c fs no_rest)) x = by (same_flag c closed)
+  content-asked closed (tuple_entry us) x = by (has_two_places us)
     where
-      by : (b : Bool) → AskedByContents Q (if b then struct_contents fs else newtype_contents (item l (struct_shape c fs no_rest)))
+      by : (b : Bool) → AskedByContents Q (if b then tuple_contents us else newtype_contents (tuple_entry us))
       by true = tt
       by false = tt
-  content-asked closed (item l (struct_shape c fs (rest i e))) x = tt
+  content-asked closed unit_entry x = tt
+  content-asked closed (item l (struct_shape c fs)) x = by (same_flag c closed && is_without_rest (rest_of fs))
+    where
+      by : (b : Bool) → AskedByContents Q (if b then struct_contents fs else newtype_contents (item l (struct_shape c fs)))
+      by true = tt
+      by false = tt
   content-asked closed (item l (enum_shape c t ws)) x = x
   content-asked closed (item l (newtype_shape e u)) x = x
   content-asked closed boolean_entry x = tt
@@ -161,16 +162,17 @@ module _ (P : List ℕ → Shape → Type 0) (Q : Target → Type 0) where
   unit-each untagged = tt
 
   content-each : (tag : TagModel) (closed : Bool) (e : Entry) → Each P Q e → EachInContents P Q (content_of tag closed e)
-  content-each tag closed (tuple_entry no_entries) x = x
-  content-each tag closed (tuple_entry (entry_then e no_entries)) x = x
-  content-each tag closed (tuple_entry (entry_then e (entry_then f us))) x = x
-  content-each tag closed unit_entry x = unit-each tag
-  content-each tag closed (item l (struct_shape c fs no_rest)) x = by (same_flag c closed)
+  content-each tag closed (tuple_entry us) x = by (has_two_places us)
     where
-      by : (b : Bool) → EachInContents P Q (if b then struct_contents fs else newtype_contents (item l (struct_shape c fs no_rest)))
+      by : (b : Bool) → EachInContents P Q (if b then tuple_contents us else newtype_contents (tuple_entry us))
+      by true = x
+      by false = x
+  content-each tag closed unit_entry x = unit-each tag
+  content-each tag closed (item l (struct_shape c fs)) x = by (same_flag c closed && is_without_rest (rest_of fs))
+    where
+      by : (b : Bool) → EachInContents P Q (if b then struct_contents fs else newtype_contents (item l (struct_shape c fs)))
       by true = (x.1.0, x.1.1)
       by false = x
-  content-each tag closed (item l (struct_shape c fs (rest i e))) x = x
   content-each tag closed (item l (enum_shape c t ws)) x = x
   content-each tag closed (item l (newtype_shape e u)) x = x
   content-each tag closed boolean_entry x = x
@@ -225,7 +227,7 @@ module _ (P : List ℕ → Type 0) (Q : Target → Type 0) (refs : (q : List ℕ
   row-asks s name (vec_row p) x h g = tt
   row-asks s name (set_row p) x h g = tt
   row-asks s name (array_row p n) x h g = tt
-  row-asks s name (tuple_row ps) x h g = tt
+  row-asks s name (tuple_row ps n p) x h g = tt
   row-asks s name (map_row k p) x h g = tt
   row-asks s name (pattern_map_row qs p) x h g = tt
   row-asks s name (struct_row c fs o) x h g = tt
@@ -427,25 +429,40 @@ module _ (r : Relations) (d : Document) where
         Said e = Each E L e × Asked (EndsWithin table last) e
 
         module _ (conv : Part → Entry) where
-          fields-each : (fs : List FieldRow) → AllParts (λ p. Said (conv p)) (field_parts fs) → EachField E L (row_fields conv fs)
-          fields-each [] h = tt
-          fields-each (f ∷ fs) h = (nullable-each E L f.nullable (conv f.part) h.0.0, fields-each fs h.1)
+          fields-each : (fs : List FieldRow) (more : Fields) → AllParts (λ p. Said (conv p)) (field_parts fs) → EachField E L more → EachField E L (row_fields conv fs more)
+          fields-each [] more h g = g
+          fields-each (f ∷ fs) more h g = (nullable-each E L f.nullable (conv f.part) h.0.0, fields-each fs more h.1 g)
 
-          entries-each : (ps : List Part) → AllParts (λ p. Said (conv p)) ps → EachEntry E L (row_entries conv ps)
-          entries-each [] h = tt
-          entries-each (p ∷ ps) h = (h.0.0, entries-each ps h.1)
+          entries-each : (ps : List Part) (more : Entries) → AllParts (λ p. Said (conv p)) ps → EachEntry E L more → EachEntry E L (row_entries conv ps more)
+          entries-each [] more h g = g
+          entries-each (p ∷ ps) more h g = (h.0.0, entries-each ps more h.1 g)
 
-          rest-each : (o : Option Part) → AllParts (λ p. Said (conv p)) (option_parts o) → EachInRest E L (rest_entry conv o)
-          rest-each None h = tt
-          rest-each (Some p) h = h.0.0
+          places-each : (n : ℕ) (p : Part) → AllParts (λ p. Said (conv p)) (further_parts n p) → EachEntry E L (alike_entries n (conv p))
+          places-each zero p h = tt
+          places-each (suc zero) p h = (h.0.0, tt)
+          places-each (suc (suc n)) p h = places-each (suc n) p h
 
-          fields-differ : (fs : List FieldRow) → differ (names_in fs) ≡ true → names_differ (fields_of (row_fields conv fs)) ≡ true
+          alike-each : (ns : List (List ℕ)) (b : Bool) (e : Entry) → Each E L e → EachField E L (alike_fields ns b e)
+          alike-each [] true e h = h
+          alike-each [] false e h = tt
+          alike-each (n ∷ []) true e h = h
+          alike-each (n ∷ []) false e h = (h, tt)
+          alike-each (n ∷ m ∷ ns) b e h = alike-each (m ∷ ns) b e h
+
+          outside-each : (o : Option OutsideRow) → AllParts (λ p. Said (conv p)) (outside_parts o) → EachField E L (outside_fields conv o)
+          outside-each None h = tt
+          outside-each (Some o) h = alike-each o.names o.keeps_rest (conv o.part) h.0.0
+
+          fields-differ : (fs : List FieldRow) → differ (names_in fs) ≡ true → names_differ (fields_of (row_fields conv fs no_fields)) ≡ true
           fields-differ fs h = same-differ narrowed Strict (λ s e. Unit {0}) conv r fs ∙ h
+
+          all-differ : (fs : List FieldRow) (o : Option OutsideRow) → differ (names_in fs ++ names_outside o) ≡ true → names_differ (fields_of (row_fields conv fs (outside_fields conv o))) ≡ true
+          all-differ fs o h = differ-names narrowed Strict (λ s e. Unit {0}) conv r (fields_of (row_fields conv fs (outside_fields conv o))) ∙ ap differ (all-named-once narrowed Strict (λ s e. Unit {0}) conv r fs o) ∙ h
 
           body-each : (s : Schema) (tag : TagModel) (closed : Bool) (b : VariantBody) → BodyFine (May last) s tag b → AllParts (λ p. Said (conv p)) (body_parts b) → EachInContents E L (body_content conv tag closed b)
           body-each s tag closed unit_body x h = tt
           body-each s tag closed (part_body p) x h = content-each E L tag closed (conv p) h.0.0
-          body-each s tag closed (fields_body fs) x h = (fields-differ fs (of tag x), fields-each fs h)
+          body-each s tag closed (fields_body fs) x h = (fields-differ fs (of tag x), fields-each fs no_fields h tt)
             where
               of : (tag : TagModel) → BodyFine (May last) s tag (fields_body fs) → differ (names_in fs) ≡ true
               of external_tag x = x
@@ -481,10 +498,10 @@ module _ (r : Relations) (d : Document) where
           row-each s name (vec_row p) x o h a = h.0.0
           row-each s name (set_row p) x o h a = h.0.0
           row-each s name (array_row p n) x o h a = h.0.0
-          row-each s name (tuple_row ps) x o h a = entries-each ps h
+          row-each s name (tuple_row ps n p) x o h a = entries-each ps (alike_entries n (conv p)) (parts-left (λ p. Said (conv p)) ps (further_parts n p) h) (places-each n p (parts-right (λ p. Said (conv p)) ps (further_parts n p) h))
           row-each s name (map_row k p) x o h a = (h.0.0, h.1.0.0)
           row-each s name (pattern_map_row qs p) x o h a = (((0, tt), tt), h.0.0)
-          row-each s name (struct_row c fs u) x o h a = ((last, a), (fields-differ fs x, fields-each fs (parts-left (λ p. Said (conv p)) (field_parts fs) (option_parts u) h), rest-each u (parts-right (λ p. Said (conv p)) (field_parts fs) (option_parts u) h)))
+          row-each s name (struct_row c fs u) x o h a = ((last, a), (all-differ fs u x, fields-each fs (outside_fields conv u) (parts-left (λ p. Said (conv p)) (field_parts fs) (outside_parts u) h) (outside-each u (parts-right (λ p. Said (conv p)) (field_parts fs) (outside_parts u) h))))
           row-each s name (enum_row tag c ws) x o h a = ((last, a), variants-each s tag (is_closed conv c ws) ws x h)
           row-each s name (merged_row ps) x o h a = tt
           row-each s name (refused_row c) x o h a = tt

@@ -11,20 +11,22 @@ use Rattle.schema_defs.specs.declared.Format.{Format}
 use Rattle.schema_defs.specs.Location.{Step, Location}
 use Rattle.schema_defs.specs.Texts.{Relations}
 use Rattle.schema_defs.specs.Schema.{Plain, Schema, boolean, object, Same, no_same, same_value, Lists, no_lists, lists, Named, no_named, named, MaybeSchema, no_schema, the_schema, MaybeSchemas, no_list, the_list, Schemas, no_more, schema, Places, no_items, each_item, by_place, Properties, no_properties, property, ListRules, MemberRules, Definition, Document}
-use Rattle.schema_defs.specs.Layer.{property_at, is_given}
+use Rattle.schema_defs.specs.Layer.{is_given}
 use Rattle.schema_defs.specs.Admits.{definition_location}
 use Rattle.model_defs.specs.Model.{allow_rule, deny_rule}
 use Rattle.model_defs.specs.Layer.{is_null, is_text, is_boolean}
-use Rattle.entry_defs.specs.Entry.{Target, required, unit_entry}
-use Rattle.convert_defs.specs.Row.{Part, child, of_branch, lone, made, FieldRow, field_parts, option_parts, VariantRow, body_parts, variants_parts, Row, leaf_row, option_row, ruled_row, vec_row, set_row, map_row, refused_row, row_parts, noted, plainly, asking, here, narrowed, widened, null_note, string_note, names_note, not_note, bad_array, bad_value, mixed_enum, nested_enum, bad_not, names as names_cause}
-use Rattle.convert_defs.specs.Standing.{of_type, less_enum, alone, no_keyword, same_type, has_type, without_same, without_lists, is_bare}
+use Rattle.entry_defs.specs.Entry.{Target, unit_entry}
+use Rattle.convert_defs.specs.Row.{Part, child, of_branch, lone, made, FieldRow, field_parts, outside_parts, further_parts, VariantRow, body_parts, variants_parts, Row, leaf_row, option_row, ruled_row, vec_row, set_row, map_row, refused_row, row_parts, noted, plainly, asking, here, narrowed, widened, null_note, string_note, names_note, not_note, bad_array, bad_value, mixed_enum, nested_enum, bad_not, names as names_cause}
+use Rattle.convert_defs.specs.Standing.{of_type, less_enum, alone, no_keyword}
+use Rattle.enum_defs.specs.Words.{same_type, has_type, without_same, without_lists, is_bare, names_of, all_some, is_name}
 use Rattle.convert_defs.specs.IntegerRow.{note_if}
 use Rattle.convert_defs.specs.Scalars.{text_finding, given_format, wanted_of, enumerated, listed_entry, kept_texts, boolean_finding, listed_alone, is_owner, is_number, distinct, texts_in, texts_entry, never_entry, without_nulls}
-use Rattle.convert_defs.specs.Owners.{part_at, each_part, filled, fixed_row, open_list, is_true, is_by_place, list_notes, sized_finding, fixed_size, array_finding, property_fields, required_fields, other_part, rest_part, struct_of, no_property, is_empty, is_false, is_shut, are_alike, pattern_names, pattern_row, name_part, names_texts, map_of, counts_notes, names_notes, object_finding}
-use Rattle.convert_defs.specs.Shapes.{Member, members_from, option_shape, only_one, is_null_schema, ObjectShape, object_shape, shape_of_named, is_closed, names_of, all_some, text_case, listed_texts, unit_rows, external_case, case_or, one_property, lone_property, property_row, if_distinct, are_distinct, external_shape, less_property, placed_field, branch_fields, body_of_field, body_of_fields, internal_variant, internal_by, internal_shape, is_tag, tag_texts, first_names, TaggedShape, adjacent_variant, adjacent_with, adjacent_by, adjacent_shape, all_names, are_all_required}
-use Rattle.convert_defs.specs.Owners.{is_name}
+use Rattle.convert_defs.specs.Owners.{part_at, each_part, listed_parts, unlisted, fixed_row, open_list, is_true, is_by_place, list_notes, sized_finding, fixed_size, array_finding, property_fields, outside_names, outside_row, other_part, struct_of, no_property, is_empty, is_false, is_shut, are_alike, pattern_names, pattern_row, name_part, names_texts, map_of, counts_notes, names_notes, object_finding}
+use Rattle.convert_defs.proofs.PlacedShapes.{ObjectShape, object_shape, shape_of_named, text_case, listed_texts, unit_rows, external_case, case_or, one_property, lone_property, property_row, if_distinct, are_distinct, branch_fields, internal_variant, adjacent_variant}
+use Rattle.convert_defs.specs.Shapes.{Member, schemas_of, external_members, members_from, option_member as option_shape, less_property, placed_field, body_of_field, body_of_fields, internal_members as internal_shape, TaggedShape, adjacent_members as adjacent_shape}
+use Rattle.enum_defs.specs.Shapes.{the_only as only_one, is_null_schema, closed_by as is_closed}
 use Rattle.convert_defs.specs.Apart.{is_apart, all_apart, members_apart, branches_apart}
-use Rattle.convert_defs.specs.Kinds.{exclusive}
+use Rattle.enum_defs.specs.Exclusive.{exclusive}
 use Rattle.convert_defs.specs.Table.{Line, lines, first_line, nullable, type_beside_null, lists_only_nulls, beside_null, reference_row, row_of_target, target_of, allowed_row, listed, with_type, only_type, type_variant, type_among, of_kinds, variant_order, type_of_listed, has_one_type, no_others, constant_of, constant_finding, constant_list, subschema_finding, finding_or, all_of_finding, any_of_finding, any_of_others, one_of_finding, one_of_only, one_of_internal, one_of_adjacent, one_of_external, one_of_option, only_member, not_finding, deny, under_not, denied, untagged_row, untagged_variant, finding_of, row_of}
 use Rattle.convert_defs.specs.RootReference.{is_root, has_root, root_in_same, root_in_lists, root_in_named, root_in_maybe, root_in_members, root_in_all, root_in_places, root_in_properties, refers_to_root}
 use Rattle.convert_defs.specs.Convert.{Handed, most_made, root_name, Node, Tree, cut_branches, tree, inner_tree, made_tree, parts_tree, definition_tree, definition_trees, document_tree}
@@ -33,6 +35,7 @@ use Rattle.convert_defs.specs.Proper.{AreProper, IsProper, ProperSame, ProperLis
 use Rattle.convert_defs.proofs.Views.{schema_of, AllParts}
 use Rattle.convert_defs.proofs.Rows.{parts-left, parts-right}
 use Rattle.convert_defs.proofs.Bare.{impossible, none-some, some-same}
+use Rattle.convert_defs.proofs.SameShapes.{whole, external-found, internal-found, adjacent-found}
 
 module _ (d : Document) where
   -- ---- what is in order is read
@@ -133,28 +136,14 @@ module _ (d : Document) where
   fields-in st req no_properties h = tt
   fields-in st req (property k s ps) h = (h.0, fields-in st req ps h.1)
 
-  others-in : (props : Properties) (other : Part) → In other → (ns : List (List ℕ)) → AllParts In (field_parts (required_fields props other ns))
-  others-in props other h [] = tt
-  others-in props other h (n ∷ ns) = by (is_given (property_at n props)) (required_fields props other ns) (others-in props other h ns)
-    where
-      by : (b : Bool) (fs : List FieldRow) → AllParts In (field_parts fs) → AllParts In (field_parts (if b then fs else record { name = n; part = other; state = required; nullable = false } ∷ fs))
-      by true fs f = f
-      by false fs f = (h, f)
-
-  both-fields : (fs gs : List FieldRow) → AllParts In (field_parts fs) → AllParts In (field_parts gs) → AllParts In (field_parts (fs ++ gs))
-  both-fields [] gs h g = g
-  both-fields (f ∷ fs) gs h g = (h.0, both-fields fs gs h.1 g)
-
-  rest-in : (m : MaybeSchema) → ProperMaybe d m → AllParts In (option_parts (rest_part m))
-  rest-in no_schema h = tt
-  rest-in (the_schema (boolean b)) h = tt
-  rest-in (the_schema (object p ss ls ns)) h = (h, tt)
+  outside-in : (ns : List (List ℕ)) (rest : MaybeSchema) → ProperMaybe d rest → AllParts In (outside_parts (outside_row ns rest))
+  outside-in (n ∷ ns) rest h = (part-at (codes "additionalProperties") rest h, tt)
+  outside-in [] no_schema h = tt
+  outside-in [] (the_schema (boolean b)) h = tt
+  outside-in [] (the_schema (object p ss ls ns)) h = (h, tt)
 
   struct-in : (st : Setting) (props : Properties) (rest : MaybeSchema) (rules : MemberRules) → ProperProperties d props → ProperMaybe d rest → AllIn (struct_of st props rest rules)
-  struct-in st props rest rules h g =
-      parts-both (field_parts (property_fields st rules.required props ++ required_fields props (other_part rest) rules.required)) (option_parts (rest_part rest))
-      (both-fields (property_fields st rules.required props) (required_fields props (other_part rest) rules.required) (fields-in st rules.required props h) (others-in props (other_part rest) (part-at (codes "additionalProperties") rest g) rules.required))
-      (rest-in rest g)
+  struct-in st props rest rules h g = parts-both (field_parts (property_fields st rules.required props)) (outside_parts (outside_row (outside_names props rules.required) rest)) (fields-in st rules.required props h) (outside-in (outside_names props rules.required) rest g)
 
   name-in : (m : MaybeSchema) → ProperMaybe d m → In (name_part m)
   name-in no_schema h = of-one-type Text
@@ -183,10 +172,14 @@ module _ (d : Document) where
 
   -- ---- arrays
 
-  filled-in : (i n : ℕ) (ss : Schemas) (rest : Part) → AllProper d ss → In rest → AllParts In (filled i n ss rest)
-  filled-in i zero ss rest h g = tt
-  filled-in i (suc n) no_more rest h g = (g, filled-in (suc i) n no_more rest tt g)
-  filled-in i (suc n) (schema s ss) rest h g = (h.0, filled-in (suc i) n ss rest h.1 g)
+  places-in : (i n : ℕ) (ss : Schemas) → AllProper d ss → AllParts In (listed_parts i n ss)
+  places-in i zero ss h = tt
+  places-in i (suc n) no_more h = tt
+  places-in i (suc n) (schema s ss) h = (h.0, places-in (suc i) n ss h.1)
+
+  further-in : (n : ℕ) (p : Part) → In p → AllParts In (further_parts n p)
+  further-in zero p h = tt
+  further-in (suc n) p h = (h, tt)
 
   each-in : (m : Places) → ProperPlaces d m → In (each_part m)
   each-in no_items h = tt
@@ -196,7 +189,9 @@ module _ (d : Document) where
   fixed-in : (n : ℕ) (m : Places) (rest : MaybeSchema) → ProperPlaces d m → ProperMaybe d rest → AllIn (fixed_row n m rest)
   fixed-in n no_items rest h g = (tt, tt)
   fixed-in n (each_item s) rest h g = (h, tt)
-  fixed-in n (by_place ss) rest h g = filled-in 0 n ss (part_at (codes "additionalItems") rest) h (part-at (codes "additionalItems") rest g)
+  fixed-in n (by_place ss) rest h g =
+      let p = part_at (codes "additionalItems") rest in
+      parts-both (listed_parts 0 n ss) (further_parts (unlisted n ss) p) (places-in 0 n ss h) (further-in (unlisted n ss) p (part-at (codes "additionalItems") rest g))
 
   open-in : (rules : ListRules) (p : Part) → In p → AllIn (open_list rules p)
   open-in rules p h = by (is_true rules.unique_items)
@@ -298,37 +293,14 @@ module _ (d : Document) where
   adjacent-all n (o ∷ os) h = parts-both (body_parts (adjacent_variant n o).body) (variants_parts (map (adjacent_variant n) os)) (field-body (branch_fields Strict n o) (branch-in Strict n o h.0)) (adjacent-all n os h.1)
 
   internal-in : (st : Setting) (ms : List Member) (t : TaggedShape) → MembersIn ms → internal_shape st ms ≡ Some t → VariantsIn t.variants
-  internal-in st ms t a e = by (all_some object_shape ms) refl e
-    where
-      tagged : (os : List ObjectShape) (ns : List (List ℕ)) → ShapesIn os → internal_by st os ns ≡ Some t → VariantsIn t.variants
-      tagged os [] h g = none-some t g
-      tagged os (n ∷ ns) h g = subst (λ x. VariantsIn x.variants) (some-same _ t g) (internal-all st n os h)
-
-      by : (x : Option (List ObjectShape)) → all_some object_shape ms ≡ x → option_and_then (λ os. internal_by st os (filter (is_tag os) (first_names os))) x ≡ Some t → VariantsIn t.variants
-      by None f h = none-some t h
-      by (Some os) f h = tagged os (filter (is_tag os) (first_names os)) (shapes-in ms os a f) h
+  internal-in st ms t a e =
+      let f = internal-found st ms t e in
+      subst (λ x. VariantsIn x.variants) (sym f.made) (internal-all st f.tag (map whole ms) (shapes-in ms (map whole ms) a f.shapes))
 
   adjacent-in : (ms : List Member) (t : TaggedShape) → MembersIn ms → adjacent_shape ms ≡ Some t → VariantsIn t.variants
-  adjacent-in ms t m e = by (all_some object_shape ms) refl e
-    where
-      this : (os : List ObjectShape) (a b : List ℕ) → ShapesIn os → Some (adjacent_with os a b) ≡ Some t → VariantsIn t.variants
-      this os a b g h = subst (λ x. VariantsIn x.variants) (some-same (adjacent_with os a b) t h) (adjacent-all a os g)
-
-      tested : (os : List ObjectShape) (a b : List ℕ) → ShapesIn os → (x y z : Bool) → (if x then None else if y then Some (adjacent_with os a b) else if z then Some (adjacent_with os b a) else None) ≡ Some t → VariantsIn t.variants
-      tested os a b g true y z h = none-some t h
-      tested os a b g false true z h = this os a b g h
-      tested os a b g false false true h = this os b a g h
-      tested os a b g false false false h = none-some t h
-
-      two : (os : List ObjectShape) (ns : List (List ℕ)) → ShapesIn os → adjacent_by os ns ≡ Some t → VariantsIn t.variants
-      two os [] g h = none-some t h
-      two os (a ∷ []) g h = none-some t h
-      two os (a ∷ b ∷ []) g h = tested os a b g (not (list_all are_all_required os)) (is_tag os a && not (is_some (tag_texts os b))) (is_tag os b && not (is_some (tag_texts os a))) h
-      two os (a ∷ b ∷ c ∷ ns) g h = none-some t h
-
-      by : (x : Option (List ObjectShape)) → all_some object_shape ms ≡ x → option_and_then (λ os. adjacent_by os (all_names os)) x ≡ Some t → VariantsIn t.variants
-      by None f h = none-some t h
-      by (Some os) f h = two os (all_names os) (shapes-in ms os m f) h
+  adjacent-in ms t a e =
+      let f = adjacent-found ms t e in
+      subst (λ x. VariantsIn x.variants) (sym f.made) (adjacent-all f.tag (map whole ms) (shapes-in ms (map whole ms) a f.shapes))
 
   units-in : (ts : List (List ℕ)) → VariantsIn (unit_rows ts)
   units-in [] = tt
@@ -382,8 +354,8 @@ module _ (d : Document) where
           subst (λ x. VariantsIn (flat_map (λ ws. ws) x)) (some-same (ws ∷ us) wss (ap (option_map (λ ys. ws ∷ ys)) (sym g) ∙ h))
           (both-in ws (flat_map (λ ws. ws) us) (case-in m ws a.0 f) (rec us g))
 
-  external-in : (ms : List Member) (ws : List VariantRow) → MembersIn ms → external_shape ms ≡ Some ws → VariantsIn ws
-  external-in ms ws a e = by (all_some external_case ms) refl e
+  external-in : (ms : List Member) (ws : List VariantRow) → MembersIn ms → external_members ms ≡ Some ws → VariantsIn ws
+  external-in ms ws a e = by (all_some external_case ms) refl (external-found ms ws e)
     where
       tested : (us : List VariantRow) → VariantsIn us → (b : Bool) → (if b then Some us else None) ≡ Some ws → VariantsIn ws
       tested us g true k = subst VariantsIn (some-same us ws k) g
@@ -443,13 +415,13 @@ module _ (d : Document) where
       adjacent (Some t) e = adjacent-in ms t h e
       adjacent None e = internal (internal_shape d.setting ms) refl
 
-      external : (x : Option (List VariantRow)) → external_shape ms ≡ x → AllIn (one_of_external d ms x).row
+      external : (x : Option (List VariantRow)) → external_members ms ≡ x → AllIn (one_of_external d ms x).row
       external (Some ws) e = external-in ms ws h e
       external None e = adjacent (adjacent_shape ms) refl
 
       optional : (x : Option Member) → option_shape ms ≡ x → AllIn (one_of_option d ms x).row
       optional (Some m) e = (option-in ms m h e, tt)
-      optional None e = external (external_shape ms) refl
+      optional None e = external (external_members ms) refl
 
   any-of-in : (n : List ℕ) (ms : List Member) → MembersIn ms → AllIn (any_of_finding d n ms).row
   any-of-in n [] h = tt
@@ -460,7 +432,7 @@ module _ (d : Document) where
       apart false = untagged-in (m ∷ ms) h
 
       by : (x : Option Member) → option_shape (m ∷ ms) ≡ x → AllIn (any_of_others d n (m ∷ ms) x).row
-      by None e = apart (exclusive d (m ∷ ms))
+      by None e = apart (exclusive d (schemas_of (m ∷ ms)))
       by (Some l) e = (option-in (m ∷ ms) l h e, tt)
 
   all-of-in : (ms : List Member) → MembersIn ms → AllIn (all_of_finding ms).row

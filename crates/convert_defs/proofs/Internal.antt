@@ -12,13 +12,16 @@ use Rattle.schema_defs.specs.Schema.{Schema, MaybeSchema, no_schema, the_schema,
 use Rattle.schema_defs.specs.Layer.{Judge, Parts, judge, judge_any, judge_count, maybe, property_at, is_given}
 use Rattle.model_defs.specs.Layer as model
 use Rattle.model_defs.specs.Layer.{MemberPart, no_parts, list_parts, object_parts, members_in, without}
-use Rattle.entry_defs.specs.Entry.{Target, Entry, unit_entry, no_rest, FieldEntry, fields_of}
+use Rattle.entry_defs.specs.Entry.{Target, Entry, unit_entry, no_rest, no_fields, FieldEntry, fields_of}
 use Rattle.entry_defs.specs.Layer as entry
 use Rattle.entry_defs.specs.Layer.{entry_takes, variant_named, variant_of_text, tagged_variant, beside_tag, internal_takes, members_take, may_be_missing}
 use Rattle.entry_defs.specs.Members.{field_named, member_takes, has_member, are_present, each_takes, AreMembers}
 use Rattle.convert_defs.specs.Row.{Way, narrowed, widened, Part, of_branch, FieldRow, field_parts, VariantRow}
-use Rattle.convert_defs.specs.Owners.{is_name, property_fields, state_of, default_of, may_be_null}
-use Rattle.convert_defs.specs.Shapes.{ObjectShape, names_of, constant_text, less_property, placed_field, branch_fields}
+use Rattle.convert_defs.specs.Owners.{property_fields, state_of, default_of, may_be_null}
+use Rattle.enum_defs.specs.Words.{is_name, names_of}
+use Rattle.convert_defs.proofs.PlacedShapes.{ObjectShape, branch_fields}
+use Rattle.convert_defs.specs.Shapes.{less_property, placed_field}
+use Rattle.enum_defs.specs.Shapes.{constant_text}
 use Rattle.convert_defs.specs.Apart.{differ}
 use Rattle.convert_defs.specs.Convert.{row_fields, nullable_entry}
 use Rattle.convert_defs.specs.Laws.{Keeps, same_way}
@@ -197,21 +200,21 @@ module _ (way : Way) (st : Setting) (R : Schema → Entry → Type 0) (conv : Pa
   fs = branch_fields st tag o
 
   abbrev FS : List FieldEntry
-  FS = fields_of (row_fields conv fs)
+  FS = fields_of (row_fields conv fs no_fields)
 
   abbrev FieldAt : List ℕ → MaybeSchema → Option FieldEntry → Type 0
   FieldAt n no_schema x = x ≡ None
   FieldAt n (the_schema t) x = (f : FieldEntry) × (x ≡ Some f) × Made way st R o.required_names n t f.entry
 
-  field-at : (qs : Properties) → AllParts (IsConverted way st R conv) (field_parts (map (placed_field o.place) (property_fields st o.required_names qs))) → (n : List ℕ) → FieldAt n (property_at n qs) (field_named n (fields_of (row_fields conv (map (placed_field o.place) (property_fields st o.required_names qs)))))
+  field-at : (qs : Properties) → AllParts (IsConverted way st R conv) (field_parts (map (placed_field o.place) (property_fields st o.required_names qs))) → (n : List ℕ) → FieldAt n (property_at n qs) (field_named n (fields_of (row_fields conv (map (placed_field o.place) (property_fields st o.required_names qs)) no_fields)))
   field-at no_properties c n = refl
   field-at (property k t qs) c n = by (bytes_eq n k) refl (field-at qs c.1 n)
     where
       f : FieldEntry
       f = record { identifier = k; name = k; entry = nullable_entry (may_be_null st && not (is_name k o.required_names)) (conv (of_branch (o.place ++ (codes "properties" ∷ k ∷ [])) t)); state = state_of (is_name k o.required_names) (default_of t) }
 
-      by : (b : Bool) → bytes_eq n k ≡ b → FieldAt n (property_at n qs) (field_named n (fields_of (row_fields conv (map (placed_field o.place) (property_fields st o.required_names qs)))))
-          → FieldAt n (if b then the_schema t else property_at n qs) (if b then Some f else field_named n (fields_of (row_fields conv (map (placed_field o.place) (property_fields st o.required_names qs)))))
+      by : (b : Bool) → bytes_eq n k ≡ b → FieldAt n (property_at n qs) (field_named n (fields_of (row_fields conv (map (placed_field o.place) (property_fields st o.required_names qs)) no_fields)))
+          → FieldAt n (if b then the_schema t else property_at n qs) (if b then Some f else field_named n (fields_of (row_fields conv (map (placed_field o.place) (property_fields st o.required_names qs)) no_fields)))
       by true e h = (f, refl, (conv (of_branch (o.place ++ (codes "properties" ∷ k ∷ [])) t), c.0, ap (λ x. nullable_entry (may_be_null st && not (is_name x o.required_names)) (conv (of_branch (o.place ++ (codes "properties" ∷ k ∷ [])) t))) (sym (same-name n k e))))
       by false e h = h
 
@@ -286,7 +289,7 @@ module _ (way : Way) (st : Setting) (R : Schema → Entry → Type 0) (conv : Pa
   -- ---- which members are there
 
   abbrev made_of : Properties → List FieldEntry
-  made_of qs = fields_of (row_fields conv (map (placed_field o.place) (property_fields st o.required_names qs)))
+  made_of qs = fields_of (row_fields conv (map (placed_field o.place) (property_fields st o.required_names qs)) no_fields)
 
   pub all-has : (f : List ℕ → Bool) (ns : List (List ℕ)) → list_all f ns ≡ true → (n : List ℕ) → is_name n ns ≡ true → f n ≡ true
   all-has f [] h n g = impossible g

@@ -20,7 +20,8 @@ use Rattle.entry_defs.specs.Layer.{entry_takes, shape_takes}
 use Rattle.entry_defs.specs.Takes as takes
 use Rattle.entry_defs.specs.Takes.{item_takes, takes_within, name_takes}
 use Rattle.convert_defs.specs.Row.{Way, Note, Cause, too_deep, bad_pattern, places, Finding, Part, child, of_branch, lone, made, row_parts, Row, leaf_row, as_it_is_row, option_row, ruled_row, vec_row, set_row, array_row, tuple_row, map_row, pattern_map_row, struct_row, enum_row, merged_row, refused_row}
-use Rattle.convert_defs.specs.Standing.{wanted, has_type, is_bare, without_lists, without_named, is_untyped, of_type, no_keyword}
+use Rattle.convert_defs.specs.Standing.{wanted, is_untyped, of_type, no_keyword}
+use Rattle.enum_defs.specs.Words.{has_type, is_bare, without_lists, without_named}
 use Rattle.convert_defs.specs.Table.{lines, finding_of, row_of, notes_at, target_of, types_of_schema, subschema_finding, type_beside_null, constant_of, has_one_type}
 use Rattle.convert_defs.specs.Scalars.{wanted_of, string_finding}
 use Rattle.convert_defs.specs.Owners.{may_be_null, object_finding, array_finding}
@@ -43,9 +44,10 @@ use Rattle.convert_defs.specs.Laws.{Keeps, Free, IsRead, IsOfDocument, AllNodes,
 use Rattle.convert_defs.proofs.Keeps.{keep-equal, keep-from, keep-to, free-left, free-right, free-ordered}
 use Rattle.convert_defs.proofs.References.{refs-both, known-refs}
 use Rattle.convert_defs.proofs.Targets.{root-last, root-led, no-definition, no-target}
-use Rattle.convert_defs.specs.Shapes.{Member, members_from}
+use Rattle.convert_defs.specs.Shapes.{Member, schemas_of, members_from}
 use Rattle.convert_defs.specs.Apart.{names_apart}
-use Rattle.convert_defs.specs.Kinds.{exclusive, null_free}
+use Rattle.enum_defs.specs.Exclusive.{exclusive}
+use Rattle.enum_defs.specs.Kinds.{null_free}
 use Rattle.convert_defs.proofs.KindsKept.{further}
 use Rattle.convert_defs.proofs.Exclusive.{exclusive-says, null-free-says}
 use Rattle.convert_defs.proofs.Small.{not_among}
@@ -53,7 +55,8 @@ use Rattle.convert_defs.proofs.Scalars.{Agrees, never-takes}
 use Rattle.convert_defs.proofs.Members.{subschema-holds}
 use Rattle.convert_defs.proofs.TypeLists.{type-list-holds}
 use Rattle.convert_defs.proofs.Listed.{enumerated-holds}
-use Rattle.convert_defs.proofs.Constants.{constant-text-holds, constant-judged}
+use Rattle.enum_defs.proofs.Constants.{constant_texts_are_texts}
+use Rattle.convert_defs.proofs.Constants.{constant-text-holds}
 use Rattle.convert_defs.proofs.Alone.{listed-alone-holds}
 use Rattle.convert_defs.proofs.Options.{nullable-holds}
 use Rattle.convert_defs.proofs.Inside.{tree-is-read}
@@ -110,7 +113,7 @@ module _ (way : Way) (r : Relations) (d : Document) where
   module _ (P : List ℕ → Type 0) (fol : List ℕ → Bool) (tgt : Target → Bool) (v : Value) (ps : Parts) (es : model.Parts entry.Judge) (w : View way d.setting R r v ps es)
       (refs : (q : List ℕ) (t : Target) → P q → target_of q ≡ Some t → Keeps way (fol q) (tgt t))
       (ref_types : (q : List ℕ) (ts : Types) → types_of_schema (target d q) ≡ Some ts → fol q ≡ true → types_agree v ts ≡ true)
-      (ex : (k : Step) (us : Schemas) → exclusive d (members_from k 0 us) ≡ true → judge_any r v ps fol us ≡ true → (judge_count r v ps fol us == 1) ≡ true)
+      (ex : (k : Step) (us : Schemas) → exclusive d (schemas_of (members_from k 0 us)) ≡ true → judge_any r v ps fol us ≡ true → (judge_count r v ps fol us == 1) ≡ true)
       (nf : (s : Schema) → null_free d s ≡ true → judge r v ps fol s ≡ true → model.is_null v ≡ false) where
     abbrev Same_ : Schema → Entry → Type 0
     Same_ s e = Agrees way d.setting R r fol tgt v ps es s e
@@ -226,7 +229,7 @@ module _ (way : Way) (r : Relations) (d : Document) where
     renamed conv l n (vec_row p) = refl
     renamed conv l n (set_row p) = refl
     renamed conv l n (array_row p m) = refl
-    renamed conv l n (tuple_row ps) = refl
+    renamed conv l n (tuple_row ps m p) = refl
     renamed conv l n (map_row k p) = refl
     renamed conv l n (pattern_map_row qs p) = refl
     renamed conv l n (struct_row c fs o) = refl
@@ -469,7 +472,7 @@ module _ (way : Way) (r : Relations) (d : Document) where
 
       constants : (ms : Members) → Constants way d.setting R ms (member_parts r d ms)
       constants no_members = tt
-      constants (member k v ms) = ((λ u s e. ap (λ j. j u) (admits-level r d v) ∙ constant-judged r v (parts_of r d v) (follows r d v (parts_of r d v) (allowed d)) u s e), constants ms)
+      constants (member k v ms) = ((λ u s e. constant_texts_are_texts r d v u s e), constants ms)
 
       absent-is : (x : Setting) (v : Value) → counts_as_absent x v ≡ (may_be_null x && takes.value_takes table r v unit_entry)
       absent-is Strict v = refl
@@ -616,7 +619,7 @@ module _ (way : Way) (r : Relations) (d : Document) where
     made-row (vec_row p) h = tt
     made-row (set_row p) h = tt
     made-row (array_row p n) h = tt
-    made-row (tuple_row ps) h = tt
+    made-row (tuple_row ps n p) h = tt
     made-row (map_row k p) h = tt
     made-row (pattern_map_row qs p) h = tt
     made-row (struct_row c fs u) h = tt

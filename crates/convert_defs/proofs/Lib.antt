@@ -13,6 +13,8 @@ pub mod Rows
 pub mod Options
 pub mod Nullable
 pub mod KindsKept
+pub mod PlacedShapes
+pub mod SameShapes
 pub mod ObjectShapes
 pub mod Exclusive
 pub mod Untagged
@@ -34,3 +36,4 @@ pub mod Law
 pub mod Fit
 pub mod Inside
 pub mod Ordered
+pub mod Chains

@@ -16,10 +16,9 @@ use Rattle.entry_defs.specs.Entry.{Target, Entry, unit_contents, VariantEntry, v
 use Rattle.entry_defs.specs.Layer as entry
 use Rattle.entry_defs.specs.Layer.{entry_takes, variant_named, is_unit_named, contents_take}
 use Rattle.convert_defs.specs.Row.{Way, widened, narrowed, here, null_note, string_note, Part, leaf_row, noted, plainly, refused_row, bad_value}
-use Rattle.convert_defs.specs.Standing.{has_type, without_same}
+use Rattle.enum_defs.specs.Words.{has_type, without_same, is_name}
 use Rattle.convert_defs.specs.IntegerRow.{note_if}
 use Rattle.convert_defs.specs.Scalars.{texts_in, distinct, unit_variants, texts_entry, nullable_texts, listed_entry, kept_texts, enumerated, given_format, wanted_of}
-use Rattle.convert_defs.specs.Owners.{is_name}
 use Rattle.convert_defs.specs.Table.{listed}
 use Rattle.convert_defs.specs.Laws.{Keeps, same_way}
 use Rattle.convert_defs.proofs.Keeps.{keep-equal, keep-from, keep-to, keep-wider, free-note, free-left, free-right}

@@ -15,13 +15,13 @@ use Rattle.entry_defs.specs.Entry.{Target, Entry}
 use Rattle.entry_defs.specs.Layer as entry
 use Rattle.entry_defs.specs.Layer.{entry_takes, same_takes, some_takes}
 use Rattle.convert_defs.specs.Row.{Way, widened, narrowed, here, not_note, type_note, Part, child, made, leaf_row, ruled_row, Finding, noted, plainly, add_notes, refused_row, nested_enum, bad_not, row_parts}
-use Rattle.convert_defs.specs.Standing.{without_same, without_lists, without_named, less_enum, of_type, no_keyword, alone}
+use Rattle.convert_defs.specs.Standing.{less_enum, of_type, no_keyword, alone}
+use Rattle.enum_defs.specs.Words.{without_same, without_lists, without_named}
 use Rattle.convert_defs.specs.IntegerRow.{note_if}
 use Rattle.convert_defs.specs.Scalars.{is_owner, never_entry, wanted_of}
-use Rattle.convert_defs.specs.Shapes.{Member, members_from, internal_shape}
+use Rattle.convert_defs.specs.Shapes.{Member, schemas_of, members_from, internal_members as internal_shape, option_member as option_shape}
 use Rattle.convert_defs.specs.Table.{no_others, untagged_row, deny, under_not, denied, listed, not_finding, type_of_listed, has_one_type, all_of_finding, any_of_finding, any_of_others, one_of_finding, subschema_finding, finding_or}
-use Rattle.convert_defs.specs.Shapes.{option_shape}
-use Rattle.convert_defs.specs.Kinds.{exclusive}
+use Rattle.enum_defs.specs.Exclusive.{exclusive}
 use Rattle.convert_defs.specs.Laws.{Keeps, same_way}
 use Rattle.convert_defs.proofs.Keeps.{keep-equal, keep-from, keep-then, keep-wider, free-note, free-left, free-right}
 use Rattle.schema_defs.proofs.Spare.{RefsSame}
@@ -137,15 +137,15 @@ module _ (way : Way) (P : List ℕ → Type 0) (st : Setting) (R : Schema → En
         three-true false = refl
 
         -- exclusive members are as under oneOf
-        counted : exclusive d (members_from (codes "anyOf") 0 (schema u us)) ≡ true → judge_any r v ps fol (schema u us) ≡ (judge_count r v ps fol (schema u us) == 1)
+        counted : exclusive d (schemas_of (members_from (codes "anyOf") 0 (schema u us))) ≡ true → judge_any r v ps fol (schema u us) ≡ (judge_count r v ps fol (schema u us) == 1)
         counted e = same_bools _ _ (ex (codes "anyOf") (schema u us) e) (some-counted r v ps fol (schema u us))
 
-        one-by-one : (b : Bool) → exclusive d (members_from (codes "anyOf") 0 (schema u us)) ≡ b → Members (same_value no_list (the_list (schema u us)) no_list no_schema false) (if b then one_of_finding d (wanted_of p) (members_from (codes "anyOf") 0 (schema u us)) else plainly (untagged_row (members_from (codes "anyOf") 0 (schema u us))))
+        one-by-one : (b : Bool) → exclusive d (schemas_of (members_from (codes "anyOf") 0 (schema u us))) ≡ b → Members (same_value no_list (the_list (schema u us)) no_list no_schema false) (if b then one_of_finding d (wanted_of p) (members_from (codes "anyOf") 0 (schema u us)) else plainly (untagged_row (members_from (codes "anyOf") 0 (schema u us))))
         one-by-one true f = λ g0 c q. keep-from way _ _ _ (three-true (judge_any r v ps fol (schema u us)) ∙ counted f) (one-of (codes "anyOf") (schema u us) a g0.1 c q)
         one-by-one false f = λ g0 c q. keep-from way _ _ _ (three-true (judge_any r v ps fol (schema u us))) (any-untagged way P st R conv r fol tgt v ps es w (codes "anyOf") 0 (schema u us) _ g0.1 q)
 
         by : (o : Option Member) → option_shape (members_from (codes "anyOf") 0 (schema u us)) ≡ o → Members (same_value no_list (the_list (schema u us)) no_list no_schema false) (any_of_others d (wanted_of p) (members_from (codes "anyOf") 0 (schema u us)) o)
-        by None e = one-by-one (exclusive d (members_from (codes "anyOf") 0 (schema u us))) refl
+        by None e = one-by-one (exclusive d (schemas_of (members_from (codes "anyOf") 0 (schema u us)))) refl
         by (Some m) e = λ g0 c q. keep-from way _ _ _ (three-true (judge_any r v ps fol (schema u us)))
             (option-agrees r v ps fol way (codes "anyOf") (schema u us) m (entry_takes r v es tgt (conv (child m.0 m.1))) e c.0
             (q.0.1 (option-refs P (codes "anyOf") 0 (schema u us) m (shape-says r v ps fol (members_from (codes "anyOf") 0 (schema u us)) m e).1 g0.1)))

@@ -17,9 +17,10 @@ use Rattle.model_defs.specs.Layer.{MemberPart}
 use Rattle.entry_defs.specs.Entry.{Entry}
 use Rattle.entry_defs.specs.Layer as entry
 use Rattle.convert_defs.specs.Row.{Way}
-use Rattle.convert_defs.specs.Standing.{has_type, is_bare, without_lists}
-use Rattle.convert_defs.specs.Owners.{is_name}
-use Rattle.convert_defs.specs.Shapes.{Member, ObjectShape, object_shape, shape_of_named, is_closed, names_of, constant_text}
+use Rattle.enum_defs.specs.Words.{has_type, is_bare, without_lists, is_name, names_of}
+use Rattle.convert_defs.proofs.PlacedShapes.{ObjectShape, object_shape, shape_of_named}
+use Rattle.convert_defs.specs.Shapes.{Member}
+use Rattle.enum_defs.specs.Shapes.{closed_by as is_closed, constant_text}
 use Rattle.convert_defs.proofs.Bare.{and_left, and_right, and_true, impossible, none-some, some-same, typed, none-agrees}
 use Rattle.convert_defs.proofs.Views.{View, of_null, of_boolean, of_number, of_text, of_list, of_object, MembersMatch, Constants}
 

@@ -12,21 +12,20 @@ use Rattle.schema_defs.specs.Schema.{Plain, Schema, boolean, object, Same, Lists
 use Rattle.schema_defs.specs.Layer.{Judge, Parts, patterns_agree, has_any, of_kind_agrees, parts_agree, is_kind, named_agree, member_agrees, member_rules_agree, property_at, is_given, maybe, within}
 use Rattle.model_defs.specs.Layer as model
 use Rattle.model_defs.specs.Layer.{MemberPart, no_parts, list_parts, object_parts, has_one_of}
-use Rattle.entry_defs.specs.Entry.{Target, required, Entry, unit_entry, map_entry, item, struct_shape, Rest, Fields, FieldEntry, fields_of}
+use Rattle.entry_defs.specs.Entry.{Target, required, Entry, unit_entry, map_entry, item, struct_shape, Rest, no_rest, rest as the_rest, rest_of, Fields, no_fields, next_field, FieldEntry, fields_of}
 use Rattle.entry_defs.specs.Layer as entry
 use Rattle.entry_defs.specs.Layer.{entry_takes, members_take, may_be_missing}
 use Rattle.entry_defs.specs.Members.{field_named, member_takes, other_takes, are_present, has_member, names_differ, AreMembers, IsFit}
 use Rattle.entry_defs.proofs.Members.{members_one_by_one}
-use Rattle.convert_defs.specs.Row.{Way, narrowed, widened, Part, child, FieldRow, field_parts, option_parts}
-use Rattle.convert_defs.specs.Standing.{has_type, is_bare}
+use Rattle.convert_defs.specs.Row.{Way, narrowed, widened, Part, child, FieldRow, field_parts, OutsideRow, outside_parts}
+use Rattle.enum_defs.specs.Words.{has_type, is_bare, is_name, names_of}
 use Rattle.schema_types.specs.Same.{same_schemas}
 use Rattle.schema_types.proofs.Alike.{schemas_Decides}
 use Rattle.convert_defs.specs.Convert.{pattern_key}
-use Rattle.convert_defs.specs.Owners.{each_alike, is_shut, pattern_names, anything, any_text, other_part, name_part, names_texts, is_false, counts_notes, above_zero, property_fields, required_fields, rest_part, is_name, state_of, default_of, may_be_null}
-use Rattle.convert_defs.specs.Shapes.{names_of}
+use Rattle.convert_defs.specs.Owners.{each_alike, is_shut, pattern_names, anything, any_text, other_part, name_part, names_texts, is_false, counts_notes, above_zero, property_fields, keeps_rest, outside_names, outside_row, state_of, default_of, may_be_null}
 use Rattle.convert_defs.specs.Apart.{differ}
-use Rattle.convert_defs.proofs.Apart.{names_in, fields-apart}
-use Rattle.convert_defs.specs.Convert.{field_entry, row_fields, rest_entry}
+use Rattle.convert_defs.proofs.Apart.{names_in, other_field, required_fields, outside_rows, rows-outside, names_outside, fields-apart}
+use Rattle.convert_defs.specs.Convert.{field_entry, row_fields, alike_fields, outside_fields}
 use Rattle.convert_defs.specs.Laws.{Keeps, same_way, Free}
 use Rattle.convert_defs.proofs.Keeps.{keep-equal, keep-from, keep-to, keep-then, keep-both, keep-wider, free-note}
 use Rattle.convert_defs.proofs.Views.{View, of_null, of_boolean, of_number, of_text, of_list, of_object, JudgesMatch, MembersMatch, MemberMatch, schema_of, IsConverted, AllParts, PatternKeys, MembersKnown, says-any, says-true, Made, made-keeps}
@@ -96,7 +95,20 @@ module _ (way : Way) (st : Setting) (R : Schema → Entry → Type 0) (conv : Pa
   field_made f = record { identifier = f.name; name = f.name; entry = field_entry conv f; state = f.state }
 
   abbrev all_made : List FieldRow → List FieldEntry
-  all_made fs = fields_of (row_fields conv fs)
+  all_made fs = fields_of (row_fields conv fs no_fields)
+
+  -- the schema of the rest, and what is made of it
+  abbrev pub rest_part : MaybeSchema → Option Part
+  rest_part (the_schema (object p ss ls ns)) = Some (child (codes "additionalProperties" ∷ []) (object p ss ls ns))
+  rest_part _ = None
+
+  abbrev pub option_parts : Option Part → List Part
+  option_parts None = []
+  option_parts (Some p) = p ∷ []
+
+  abbrev pub rest_entry : Option Part → Rest
+  rest_entry None = no_rest
+  rest_entry (Some p) = the_rest (codes "extra") (conv p)
 
   -- what a struct has at a name: the field of the property, or what comes after the properties
   abbrev Lookup : List (List ℕ) → List ℕ → MaybeSchema → Option FieldEntry → Option FieldEntry → Type 0
@@ -118,9 +130,6 @@ module _ (way : Way) (st : Setting) (R : Schema → Entry → Type 0) (conv : Pa
   abbrev OtherAt : Part → Option FieldEntry → Type 0
   OtherAt other o = (o ≡ None) ⊎ ((f : FieldEntry) × (o ≡ Some f) × (f.entry ≡ conv other) × Conv other)
 
-  abbrev other_field : List ℕ → Part → FieldRow
-  other_field l other = record { name = l; part = other; state = required; nullable = false }
-
   picked : (other : Part) (l : List ℕ) (b : Bool) (o : Option FieldEntry) → Conv other → OtherAt other o → OtherAt other (if b then Some (field_made (other_field l other)) else o)
   picked other l true o c h = inr (field_made (other_field l other), refl, refl, c)
   picked other l false o c h = h
@@ -134,7 +143,7 @@ module _ (way : Way) (st : Setting) (R : Schema → Entry → Type 0) (conv : Pa
   other-at props other [] n c = inl refl
   other-at props other (l ∷ ns) n c = skipped other n l (is_given (property_at l props)) (required_fields props other ns) c (other-at props other ns n)
 
-  rest-takes : (rest : MaybeSchema) → AllParts Conv (option_parts (rest_part rest)) → (j : Judge) (k : MemberPart entry.Judge) → JudgesMatch way st R j k.value → Keeps way (maybe j rest) (other_takes (is_false rest) (rest_entry conv (rest_part rest)) k)
+  rest-takes : (rest : MaybeSchema) → AllParts Conv (option_parts (rest_part rest)) → (j : Judge) (k : MemberPart entry.Judge) → JudgesMatch way st R j k.value → Keeps way (maybe j rest) (other_takes (is_false rest) (rest_entry (rest_part rest)) k)
   rest-takes no_schema c j k h = keep-equal way true true refl
   rest-takes (the_schema (boolean true)) c j k h = keep-equal way _ _ (h.booleans true)
   rest-takes (the_schema (boolean false)) c j k h = keep-equal way _ _ (h.booleans false)
@@ -142,7 +151,7 @@ module _ (way : Way) (st : Setting) (R : Schema → Entry → Type 0) (conv : Pa
 
   module _ (rest : MaybeSchema) (c : AllParts Conv (option_parts (rest_part rest))) (j : SchemaMember) (k : MemberPart entry.Judge) (h : JudgesMatch way st R j.says k.value) where
     abbrev taken : Option FieldEntry → Bool
-    taken o = member_takes (is_false rest) (rest_entry conv (rest_part rest)) k o
+    taken o = member_takes (is_false rest) (rest_entry (rest_part rest)) k o
 
     other-taken : (tail : Option FieldEntry) → OtherAt (other_part rest) tail → Keeps way (maybe j.says rest) (taken tail)
     other-taken tail (inl e) = keep-to way _ _ _ (rest-takes rest c j.says k h) (ap taken (sym e))
@@ -163,14 +172,14 @@ module _ (way : Way) (st : Setting) (R : Schema → Entry → Type 0) (conv : Pa
 
     module _ (c : AllParts Conv (field_parts (property_fields st req props))) (o : AllParts Conv (field_parts (required_fields props (other_part rest) req))) (q : AllParts Conv (option_parts (rest_part rest))) (g : same_way way widened ≡ true → is_given names ≡ false) where
       abbrev member_said : MemberPart entry.Judge → Bool
-      member_said k = member_takes (is_false rest) (rest_entry conv (rest_part rest)) k (field_named k.name (all_made fields))
+      member_said k = member_takes (is_false rest) (rest_entry (rest_part rest)) k (field_named k.name (all_made fields))
 
       struct-member : (name : List ℕ → Judge) (n : List ℕ) (j : SchemaMember) (k : MemberPart entry.Judge) → MemberMatch way st R name n j k → Keeps way (member_agrees r name props no_properties rest names req j) (member_said k)
       struct-member name n j k h =
           keep-then way _ _ _ (keep-wider way ((is_passed_over req j || maybe j.says (property_at j.name props)) && true && (is_given (property_at j.name props) || false || maybe j.says rest)) (maybe (name j.name) names) (λ e. names-said name j.name names (g e)))
           (keep-from way _ _ _ (ap (λ m. (is_passed_over req j || maybe j.says (property_at m props)) && true && (is_given (property_at m props) || false || maybe j.says rest)) h.same_name)
           (keep-to way _ _ _ (member-by rest q j k h.value req n h.same_name h.as_absent (property_at n props) _ _ (lookup req props c n (required_fields props (other_part rest) req)) (other-at props (other_part rest) req n o))
-          (ap (λ m. member_takes (is_false rest) (rest_entry conv (rest_part rest)) k (field_named m (all_made fields))) (sym h.name_is))))
+          (ap (λ m. member_takes (is_false rest) (rest_entry (rest_part rest)) k (field_named m (all_made fields))) (sym h.name_is))))
 
       struct-members : (name : List ℕ → Judge) (ms : Members) (js : List SchemaMember) (ks : List (MemberPart entry.Judge)) → MembersMatch way st R name ms js ks
           → Keeps way (list_all (member_agrees r name props no_properties rest names req) js) (list_all member_said ks)
@@ -292,23 +301,133 @@ module _ (way : Way) (st : Setting) (R : Schema → Entry → Type 0) (conv : Pa
   fields-differ req props rest names h g =
       same-differ (fields req props rest names) ∙ fields-apart st req props (other_part rest) h g
 
-  fit : (rest : MaybeSchema) → IsFit (is_false rest) (rest_entry conv (rest_part rest))
+  fit : (rest : MaybeSchema) → IsFit (is_false rest) (rest_entry (rest_part rest))
   fit no_schema = tt
   fit (the_schema (boolean true)) = tt
   fit (the_schema (boolean false)) = tt
   fit (the_schema (object p ss ls ns)) = refl
 
-  pub struct-agrees : (props : Properties) (rest names : MaybeSchema) (c : MemberRules) → differ (names_of props) ≡ true → differ c.required ≡ true → Free way (counts_notes c) → (same_way way widened ≡ true → is_given names ≡ false)
+  struct-agrees : (props : Properties) (rest names : MaybeSchema) (c : MemberRules) → differ (names_of props) ≡ true → differ c.required ≡ true → Free way (counts_notes c) → (same_way way widened ≡ true → is_given names ≡ false)
       → AllParts Conv (field_parts (property_fields st c.required props)) → AllParts Conv (field_parts (required_fields props (other_part rest) c.required)) → AllParts Conv (option_parts (rest_part rest))
       → (ms : Members) (ps : Parts) (ks : List (MemberPart entry.Judge)) → MembersMatch way st R ps.name ms ps.members ks → AreMembers ks
-      → Keeps way (named_agree r ms ps (named props no_properties rest names c)) (members_take (is_false rest) (all_made (fields c.required props rest names)) (rest_entry conv (rest_part rest)) ks)
+      → Keeps way (named_agree r ms ps (named props no_properties rest names c)) (members_take (is_false rest) (all_made (fields c.required props rest names)) (rest_entry (rest_part rest)) ks)
   struct-agrees props rest names c x y n g a b q ms ps ks h am =
       keep-to way _ _ _
       (keep-both way _ _ _ _ (struct-members c.required props rest names a b q g ps.name ms ps.members ks h)
       (keep-from way _ _ _ (swapped (within c.min_properties c.max_properties (member_count ms)) (list_all (λ n. has_name n ms) c.required))
       (keep-then way _ _ _ (keep-wider way (list_all (λ n. has_name n ms) c.required) (within c.min_properties c.max_properties (member_count ms)) (λ e. counts-agree c n e ms))
       (keep-equal way _ _ ((λ i. list_all (λ n. sym (has-member ps.name ms ps.members ks h n) i) c.required) ∙ sym (presence ks c.required props (other_part rest)))))))
-      (sym (members_one_by_one (is_false rest) (all_made (fields c.required props rest names)) (rest_entry conv (rest_part rest)) ks (fit rest) (fields-differ c.required props rest names x y) am))
+      (sym (members_one_by_one (is_false rest) (all_made (fields c.required props rest names)) (rest_entry (rest_part rest)) ks (fit rest) (fields-differ c.required props rest names x y) am))
+
+  -- ---- the fields of a struct as one list, though those outside `properties` and the rest are one part
+
+  all-both : (fs : List FieldRow) (more : Fields) → fields_of (row_fields conv fs more) ≡ all_made fs ++ fields_of more
+  all-both [] more = refl
+  all-both (f ∷ fs) more = ap (λ xs. field_made f ∷ xs) (all-both fs more)
+
+  pub rest-both : (fs : List FieldRow) (more : Fields) → rest_of (row_fields conv fs more) ≡ rest_of more
+  rest-both [] more = refl
+  rest-both (f ∷ fs) more = rest-both fs more
+
+  made-both : (fs gs : List FieldRow) → all_made (fs ++ gs) ≡ all_made fs ++ all_made gs
+  made-both [] gs = refl
+  made-both (f ∷ fs) gs = ap (λ xs. field_made f ∷ xs) (made-both fs gs)
+
+  next-alike : (n : List ℕ) (ns : List (List ℕ)) (b : Bool) (e : Entry) → next_field (alike_fields (n ∷ ns) b e) ≡ e
+  next-alike n [] true e = refl
+  next-alike n [] false e = refl
+  next-alike n (m ∷ ns) b e = next-alike m ns b e
+
+  alike-made : (other : Part) (ns : List (List ℕ)) (b : Bool) → fields_of (alike_fields ns b (conv other)) ≡ all_made (outside_rows other ns)
+  alike-made other [] true = refl
+  alike-made other [] false = refl
+  alike-made other (n ∷ []) true = refl
+  alike-made other (n ∷ []) false = refl
+  alike-made other (n ∷ m ∷ ns) b = λ i. record { identifier = n; name = n; entry = next-alike m ns b (conv other) i; state = required } ∷ alike-made other (m ∷ ns) b i
+
+  alike-rest : (ns : List (List ℕ)) (b : Bool) (e : Entry) → rest_of (alike_fields ns b e) ≡ (if b then the_rest (codes "extra") e else no_rest)
+  alike-rest [] true e = refl
+  alike-rest [] false e = refl
+  alike-rest (n ∷ []) true e = refl
+  alike-rest (n ∷ []) false e = refl
+  alike-rest (n ∷ m ∷ ns) b e = alike-rest (m ∷ ns) b e
+
+  kept-rest : (rest : MaybeSchema) → (if keeps_rest rest then the_rest (codes "extra") (conv (other_part rest)) else no_rest) ≡ rest_entry (rest_part rest)
+  kept-rest no_schema = refl
+  kept-rest (the_schema (boolean b)) = refl
+  kept-rest (the_schema (object p ss ls ns)) = refl
+
+  outside-made : (ns : List (List ℕ)) (rest : MaybeSchema) → fields_of (outside_fields conv (outside_row ns rest)) ≡ all_made (outside_rows (other_part rest) ns)
+  outside-made (n ∷ ns) rest = alike-made (other_part rest) (n ∷ ns) (keeps_rest rest)
+  outside-made [] no_schema = refl
+  outside-made [] (the_schema (boolean b)) = refl
+  outside-made [] (the_schema (object p ss ls ns)) = refl
+
+  outside-rest : (ns : List (List ℕ)) (rest : MaybeSchema) → rest_of (outside_fields conv (outside_row ns rest)) ≡ rest_entry (rest_part rest)
+  outside-rest (n ∷ ns) rest = alike-rest (n ∷ ns) (keeps_rest rest) (conv (other_part rest)) ∙ kept-rest rest
+  outside-rest [] no_schema = refl
+  outside-rest [] (the_schema (boolean b)) = refl
+  outside-rest [] (the_schema (object p ss ls ns)) = refl
+
+  -- what is known of the one part is known of each field and of the rest
+  outside-known : (ns : List (List ℕ)) (rest : MaybeSchema) → AllParts Conv (outside_parts (outside_row ns rest)) → AllParts Conv (field_parts (outside_rows (other_part rest) ns))
+  outside-known [] rest c = tt
+  outside-known (n ∷ ns) rest c = (c.0, all c.0 ns)
+    where
+      all : Conv (other_part rest) → (ns : List (List ℕ)) → AllParts Conv (field_parts (outside_rows (other_part rest) ns))
+      all c [] = tt
+      all c (n ∷ ns) = (c, all c ns)
+
+  rest-known : (ns : List (List ℕ)) (rest : MaybeSchema) → AllParts Conv (outside_parts (outside_row ns rest)) → AllParts Conv (option_parts (rest_part rest))
+  rest-known ns no_schema c = tt
+  rest-known ns (the_schema (boolean b)) c = tt
+  rest-known [] (the_schema (object p ss ls ms)) c = c
+  rest-known (n ∷ ns) (the_schema (object p ss ls ms)) c = c
+
+  abbrev pub struct_fields : (req : List (List ℕ)) → Properties → MaybeSchema → Fields
+  struct_fields req props rest = row_fields conv (property_fields st req props) (outside_fields conv (outside_row (outside_names props req) rest))
+
+  pub struct-taken : (props : Properties) (rest names : MaybeSchema) (c : MemberRules) → differ (names_of props) ≡ true → differ c.required ≡ true → Free way (counts_notes c) → (same_way way widened ≡ true → is_given names ≡ false)
+      → AllParts Conv (field_parts (property_fields st c.required props)) → AllParts Conv (outside_parts (outside_row (outside_names props c.required) rest))
+      → (ms : Members) (ps : Parts) (ks : List (MemberPart entry.Judge)) → MembersMatch way st R ps.name ms ps.members ks → AreMembers ks
+      → Keeps way (named_agree r ms ps (named props no_properties rest names c)) (members_take (is_false rest) (fields_of (struct_fields c.required props rest)) (rest_of (struct_fields c.required props rest)) ks)
+  struct-taken props rest names c x y n g a b ms ps ks h am =
+      let fs = property_fields st c.required props in
+      let os = outside_row (outside_names props c.required) rest in
+      let e = all-both fs (outside_fields conv os) ∙ ap (λ xs. all_made fs ++ xs) (outside-made (outside_names props c.required) rest ∙ ap all_made (rows-outside props (other_part rest) c.required)) ∙ sym (made-both fs (required_fields props (other_part rest) c.required)) in
+      let k = rest-both fs (outside_fields conv os) ∙ outside-rest (outside_names props c.required) rest in
+      keep-to way _ _ _
+      (struct-agrees props rest names c x y n g a (subst (λ xs. AllParts Conv (field_parts xs)) (rows-outside props (other_part rest) c.required) (outside-known (outside_names props c.required) rest b)) (rest-known (outside_names props c.required) rest b) ms ps ks h am)
+      (λ i. members_take (is_false rest) (sym e i) (sym k i) ks)
+
+  -- ---- the names of all fields
+
+  abbrev pub entry_names : List FieldEntry → List (List ℕ)
+  entry_names [] = []
+  entry_names (f ∷ fs) = f.name ∷ entry_names fs
+
+  names-among : (n : List ℕ) (fs : List FieldEntry) → list_all (λ g. not (bytes_eq n g.name)) fs ≡ list_all (λ m. not (bytes_eq n m)) (entry_names fs)
+  names-among n [] = refl
+  names-among n (f ∷ fs) = ap (λ b. not (bytes_eq n f.name) && b) (names-among n fs)
+
+  pub differ-names : (fs : List FieldEntry) → names_differ fs ≡ differ (entry_names fs)
+  differ-names [] = refl
+  differ-names (f ∷ fs) = λ i. names-among f.name fs i && differ-names fs i
+
+  alike-names : (ns : List (List ℕ)) (b : Bool) (e : Entry) → entry_names (fields_of (alike_fields ns b e)) ≡ ns
+  alike-names [] true e = refl
+  alike-names [] false e = refl
+  alike-names (n ∷ []) true e = refl
+  alike-names (n ∷ []) false e = refl
+  alike-names (n ∷ m ∷ ns) b e = ap (λ xs. n ∷ xs) (alike-names (m ∷ ns) b e)
+
+  outside-named : (o : Option OutsideRow) → entry_names (fields_of (outside_fields conv o)) ≡ names_outside o
+  outside-named None = refl
+  outside-named (Some o) = alike-names o.names o.keeps_rest (conv o.part)
+
+  pub all-named-once : (fs : List FieldRow) (o : Option OutsideRow) → entry_names (fields_of (row_fields conv fs (outside_fields conv o))) ≡ names_in fs ++ names_outside o
+  all-named-once [] o = outside-named o
+  all-named-once (f ∷ fs) o = ap (λ xs. f.name ∷ xs) (all-named-once fs o)
 
   -- ---- maps by patterns
 
@@ -405,11 +524,11 @@ module _ (way : Way) (st : Setting) (R : Schema → Entry → Type 0) (conv : Pa
         by (of_list xs ps ks h) = keep-equal way _ _ refl
         by (of_object ms ps ks h am) = f ms ps ks h am
 
-    pub struct-row : (l : List ℕ) (closed : Bool) (fs : Fields) (o : Rest) → OfMembers (members_take closed (fields_of fs) o) → has_type Object p.types ≡ true → is_bare p ss ≡ true
-        → Agrees way st R r fol tgt v ps es (object p ss ls ns) (item l (struct_shape closed fs o))
-    struct-row l closed fs o f t h = keep-from way _ _ _ (typed r v ps fol p ss ls ns Object t h) (by w)
+    pub struct-row : (l : List ℕ) (closed : Bool) (fs : Fields) → OfMembers (members_take closed (fields_of fs) (rest_of fs)) → has_type Object p.types ≡ true → is_bare p ss ≡ true
+        → Agrees way st R r fol tgt v ps es (object p ss ls ns) (item l (struct_shape closed fs))
+    struct-row l closed fs f t h = keep-from way _ _ _ (typed r v ps fol p ss ls ns Object t h) (by w)
       where
-        by : {v : Value} {ps : Parts} {es : model.Parts entry.Judge} → View way st R r v ps es → Keeps way (is_kind v Object && of_kind_agrees r p v && parts_agree r v ps ls ns) (entry.struct_takes closed (fields_of fs) o es)
+        by : {v : Value} {ps : Parts} {es : model.Parts entry.Judge} → View way st R r v ps es → Keeps way (is_kind v Object && of_kind_agrees r p v && parts_agree r v ps ls ns) (entry.struct_takes closed (fields_of fs) (rest_of fs) es)
         by (of_null ps) = keep-equal way _ _ refl
         by (of_boolean b ps) = keep-equal way _ _ refl
         by (of_number z ps s) = keep-equal way _ _ refl

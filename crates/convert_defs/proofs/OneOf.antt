@@ -15,8 +15,9 @@ use Rattle.entry_defs.specs.Layer as entry
 use Rattle.entry_defs.specs.Layer.{entry_takes}
 use Rattle.convert_defs.specs.Row.{Way, narrowed, widened, here, null_note, Part, by_contents, VariantRow, Finding, row_parts}
 use Rattle.convert_defs.specs.IntegerRow.{note_if}
-use Rattle.convert_defs.specs.Shapes.{Member, members_from, is_odd_null, option_shape, external_shape, adjacent_shape, internal_shape, TaggedShape}
-use Rattle.convert_defs.specs.Kinds.{exclusive, null_free}
+use Rattle.convert_defs.specs.Shapes.{Member, schemas_of, external_members as external_shape, members_from, is_odd_null, option_member as option_shape, adjacent_members as adjacent_shape, internal_members as internal_shape, TaggedShape}
+use Rattle.enum_defs.specs.Exclusive.{exclusive}
+use Rattle.enum_defs.specs.Kinds.{null_free}
 use Rattle.convert_defs.specs.Table.{member_part, untagged_variant, odd_nulls, only_member, one_null_member, one_of_only, one_of_internal, one_of_adjacent, one_of_external, one_of_option}
 use Rattle.convert_defs.specs.Convert.{is_closed}
 use Rattle.convert_defs.specs.Laws.{Keeps, same_way, Free}
@@ -33,7 +34,7 @@ module _ (way : Way) (P : List ℕ → Type 0) (st : Setting) (R : Schema → En
 
   -- what is known of exclusive members, and of those that are free of null
   abbrev pub ExclusiveSays : Document → Type 0
-  ExclusiveSays d = (k : Step) (us : Schemas) → exclusive d (members_from k 0 us) ≡ true → judge_any r v ps fol us ≡ true → Counted us ≡ true
+  ExclusiveSays d = (k : Step) (us : Schemas) → exclusive d (schemas_of (members_from k 0 us)) ≡ true → judge_any r v ps fol us ≡ true → Counted us ≡ true
 
   abbrev pub NullFreeSays : Document → Type 0
   NullFreeSays d = (s : Schema) → null_free d s ≡ true → judge r v ps fol s ≡ true → model.is_null v ≡ false
@@ -57,17 +58,17 @@ module _ (way : Way) (P : List ℕ → Type 0) (st : Setting) (R : Schema → En
     only-refs (schema u (schema x us)) m e g = none-some m e
 
     -- just one, and some
-    counted-some : (us : Schemas) → (same_way way widened ≡ true → exclusive d (members_from k 0 us) ≡ true) → Keeps way (Counted us) (judge_any r v ps fol us)
+    counted-some : (us : Schemas) → (same_way way widened ≡ true → exclusive d (schemas_of (members_from k 0 us)) ≡ true) → Keeps way (Counted us) (judge_any r v ps fol us)
     counted-some us f = by way f
       where
-        by : (m : Way) → (same_way m widened ≡ true → exclusive d (members_from k 0 us) ≡ true) → Keeps m (Counted us) (judge_any r v ps fol us)
+        by : (m : Way) → (same_way m widened ≡ true → exclusive d (schemas_of (members_from k 0 us)) ≡ true) → Keeps m (Counted us) (judge_any r v ps fol us)
         by narrowed f = λ t. some-counted r v ps fol us t
         by widened f = λ t. ex k us (f refl) t
 
     pub only-holds : (us : Schemas) (x : Option Member) → only_member (members_from k 0 us) ≡ x → One name us (one_of_only d (members_from k 0 us) x)
     only-holds us (Some m) e = λ g0 c q. keep-from way _ _ _ (only-one us m e) (q.0.1 (only-refs us m e g0))
     only-holds us None e = λ g0 c q.
-        keep-then way _ _ _ (counted-some us (λ z. not_false _ (free-note way (not (exclusive d (members_from k 0 us))) _ c.0 z)))
+        keep-then way _ _ _ (counted-some us (λ z. not_false _ (free-note way (not (exclusive d (schemas_of (members_from k 0 us)))) _ c.0 z)))
         (any-untagged way P st R conv r fol tgt v ps es w k 0 us (is_closed conv by_contents (map untagged_variant (members_from k 0 us))) g0 q)
 
     option-holds : (us : Schemas) (m : Member) → option_shape (members_from k 0 us) ≡ Some m → One name us (one_of_option d (members_from k 0 us) (Some m))

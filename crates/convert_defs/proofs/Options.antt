@@ -15,7 +15,8 @@ use Rattle.entry_defs.specs.Entry.{Target, Entry, unit_entry}
 use Rattle.entry_defs.specs.Layer as entry
 use Rattle.entry_defs.specs.Layer.{entry_takes}
 use Rattle.convert_defs.specs.Row.{Way, widened, narrowed, Part, made, leaf_row, option_row, noted}
-use Rattle.convert_defs.specs.Standing.{same_type, without_same, of_type}
+use Rattle.convert_defs.specs.Standing.{of_type}
+use Rattle.enum_defs.specs.Words.{same_type, without_same}
 use Rattle.convert_defs.specs.Scalars.{non_null}
 use Rattle.convert_defs.specs.Table.{type_beside_null, beside_null, lists_only_nulls, lists_no_null, nullable, nullable_notes}
 use Rattle.convert_defs.specs.Laws.{Keeps, Free}

@@ -17,12 +17,13 @@ use Rattle.model_defs.specs.Layer as model
 use Rattle.entry_defs.specs.Entry.{Target, Entry, any_entry, unit_entry, integer_entry}
 use Rattle.entry_defs.specs.Layer as entry
 use Rattle.entry_defs.specs.Layer.{entry_takes}
-use Rattle.convert_defs.specs.Row.{Note, Part, child, made, FieldRow, Way, narrowed, widened, here, integer_note, names_note, const_note, names as names_cause, bad_array, nested_enum, Row, leaf_row, as_it_is_row, ruled_row, vec_row, set_row, map_row, merged_row, refused_row, row_parts, field_parts, option_parts, Finding, noted, plainly, add_notes, asking}
-use Rattle.convert_defs.specs.Standing.{has_type, is_bare, is_untyped, without_same, without_lists, without_named, wanted, less_reference, less_enum, less_const, less_types, of_type, same_type}
+use Rattle.convert_defs.specs.Row.{Note, Part, child, made, Way, narrowed, widened, here, integer_note, names_note, const_note, names as names_cause, bad_array, nested_enum, Row, leaf_row, as_it_is_row, ruled_row, vec_row, set_row, map_row, merged_row, refused_row, row_parts, field_parts, outside_parts, Finding, noted, plainly, add_notes, asking}
+use Rattle.convert_defs.specs.Standing.{is_untyped, wanted, less_reference, less_enum, less_const, less_types, of_type}
+use Rattle.enum_defs.specs.Words.{has_type, is_bare, without_same, without_lists, without_named, same_type, names_of}
 use Rattle.convert_defs.specs.Scalars.{string_finding, text_finding, given_format, ruled_text, wanted_of, boolean_finding, is_owner}
-use Rattle.convert_defs.specs.Owners.{is_shut, are_alike, pattern_names, pattern_row, anything, any_text, part_at, other_part, name_part, names_texts, no_property, is_empty, is_false, counts_notes, names_notes, property_fields, required_fields, rest_part, map_of, struct_of, object_finding, array_finding, sized_finding, fixed_size, fixed_row, each_part, is_by_place, list_notes, open_list, is_true, filled}
+use Rattle.convert_defs.specs.Owners.{is_shut, are_alike, pattern_names, pattern_row, anything, any_text, part_at, other_part, name_part, names_texts, no_property, is_empty, is_false, counts_notes, names_notes, property_fields, outside_names, outside_row, map_of, struct_of, object_finding, array_finding, sized_finding, fixed_size, fixed_row, each_part, is_by_place, list_notes, open_list, is_true, listed_parts, unlisted}
 use Rattle.convert_defs.specs.Table.{Line, first_line, reference_row, row_of_target, target_of, types_of_schema, target_types, same_types, same_lists, no_others, allowed_row, listed, type_among, every_type, with_type, only_type, untyped}
-use Rattle.convert_defs.specs.Convert.{pattern_key, entry_of, row_fields, row_entries, rest_entry}
+use Rattle.convert_defs.specs.Convert.{pattern_key, entry_of, row_entries, alike_entries}
 use Rattle.convert_defs.specs.IntegerRow.{note_if, integer_of, range_of_plain, integer_notes, admitted_range, numbers_or_none, in_i64, lies_in, has_multiple}
 use Rattle.convert_defs.proofs.Integers.{admitted, within, small-range, no-multiple}
 use Rattle.schema_defs.specs.Integers.{Range, in_range}
@@ -33,10 +34,9 @@ use Rattle.schema_defs.proofs.Spare.{Refs, Given}
 use Rattle.convert_defs.proofs.Views.{View, of_null, of_boolean, of_number, of_text, of_list, of_object, schema_of, IsConverted, AllParts}
 use Rattle.convert_defs.proofs.Bare.{and_left, and_right, and_true, and_false, three, four, or_left, or_right, impossible, not_false, none-agrees, same-agrees, same_type-eq, same_bools, no-lists, no-named, bare, typed}
 use Rattle.convert_defs.proofs.Scalars.{Agrees, null-row, any-row, text-row, native-row, ruled-row, boolean-row}
-use Rattle.convert_defs.proofs.Arrays.{vec-row, array-row, tuple-row, open-agrees, any-agrees, array-agrees, places-agree}
-use Rattle.convert_defs.specs.Shapes.{names_of}
+use Rattle.convert_defs.proofs.Arrays.{vec-row, array-row, tuple-row, open-agrees, any-agrees, array-agrees, tuple-taken}
 use Rattle.convert_defs.specs.Apart.{differ, names_apart}
-use Rattle.convert_defs.proofs.Objects.{map-row, patterns-agree, struct-row, map-agrees, any-members, struct-agrees}
+use Rattle.convert_defs.proofs.Objects.{map-row, patterns-agree, struct-row, map-agrees, any-members, struct-taken, struct_fields}
 
 -- ---- keywords that say nothing of a value
 
@@ -158,10 +158,6 @@ pub parts-right : (P : Part → Type 0) (xs ys : List Part) → AllParts P (xs +
 parts-right P [] ys h = h
 parts-right P (x ∷ xs) ys h = parts-right P xs ys h.1
 
-fields-both : (fs gs : List FieldRow) → field_parts (fs ++ gs) ≡ field_parts fs ++ field_parts gs
-fields-both [] gs = refl
-fields-both (f ∷ fs) gs = ap (λ ps. f.part ∷ ps) (fields-both fs gs)
-
 module _ (way : Way) (P : List ℕ → Type 0) (st : Setting) (R : Schema → Entry → Type 0) (conv : Part → Entry) (r : Relations) (fol : List ℕ → Bool) (tgt : Target → Bool) (v : Value) (ps : Parts) (es : model.Parts entry.Judge) (w : View way st R r v ps es) where
   -- a part that is converted, and that agrees with its entry on the value itself
   abbrev pub IsSound : Part → Type 0
@@ -259,8 +255,8 @@ module _ (way : Way) (P : List ℕ → Type 0) (st : Setting) (R : Schema → En
         fixed : (n : ℕ) (places : Places) → ls ≡ lists places rest contains rules → fixed_size rules contains ≡ Some n → Holds s (plainly (fixed_row n places rest))
         fixed n no_items e f = λ g0 c q. array-row way st R conv r fol tgt v ps es w p ss ls ns (conv anything) n (λ xs js ks m. keep-from way _ _ _ (ap (λ l. lists_agree xs js l) e) (array-agrees way st R conv n no_items rest contains rules refl f q.0.0 xs js ks m)) t h
         fixed n (each_item u) e f = λ g0 c q. array-row way st R conv r fol tgt v ps es w p ss ls ns (conv (each_part (each_item u))) n (λ xs js ks m. keep-from way _ _ _ (ap (λ l. lists_agree xs js l) e) (array-agrees way st R conv n (each_item u) rest contains rules refl f q.0.0 xs js ks m)) t h
-        fixed n (by_place us) e f = λ g0 c q. tuple-row way st R conv r fol tgt v ps es w p ss ls ns (row_entries conv (filled 0 n us (part_at (codes "additionalItems") rest)))
-            (λ xs js ks m. keep-from way _ _ _ (ap (λ l. lists_agree xs js l) e) (places-agree way st R conv n us rest contains rules f (converted _ q) xs js ks m)) t h
+        fixed n (by_place us) e f = λ g0 c q. tuple-row way st R conv r fol tgt v ps es w p ss ls ns (row_entries conv (listed_parts 0 n us) (alike_entries (unlisted n us) (conv (part_at (codes "additionalItems") rest))))
+            (λ xs js ks m. keep-from way _ _ _ (ap (λ l. lists_agree xs js l) e) (tuple-taken way st R conv n us rest contains rules f (converted _ q) xs js ks m)) t h
 
         open-or-set : (b : Bool) → is_true rules.unique_items ≡ b → is_by_place places ≡ false → is_given contains ≡ false → Holds s (noted (list_notes rules) (if b then set_row (each_part places) else vec_row (each_part places)))
         open-or-set true u x y = λ g0 c q. vec-row way st R conv r fol tgt v ps es w p ss ls ns (conv (each_part places)) (λ xs js ks m. keep-from way _ _ _ (ap (λ l. lists_agree xs js l) e) (open-agrees way st R conv places rest contains rules x y c.0 q.0.0 xs js ks m)) t h
@@ -307,11 +303,11 @@ module _ (way : Way) (P : List ℕ → Type 0) (st : Setting) (R : Schema → En
             let n = free-right way (counts_notes rules) (names_notes patterns names) c.0 in
             let g : same_way way widened ≡ true → is_given names ≡ false = λ e. or_left (is_given names) (not (no_property patterns)) (free-note way (is_given names || not (no_property patterns)) (here widened names_note) (free-left way (note_if (is_given names || not (no_property patterns)) (here widened names_note)) (note_if (not (no_property patterns)) (here narrowed names_note)) n) e) in
             let fs = property_fields st rules.required props in
-            let os = required_fields props (other_part rest) rules.required in
-            let both = subst (AllParts (IsConverted way st R conv)) (fields-both fs os) (parts-left (IsConverted way st R conv) (field_parts (fs ++ os)) (option_parts (rest_part rest)) (converted (field_parts (fs ++ os) ++ option_parts (rest_part rest)) q)) in
-            struct-row way st R conv r fol tgt v ps es w p ss ls ns (wanted s) (is_false rest) (row_fields conv (fs ++ os)) (rest_entry conv (rest_part rest))
+            let os = outside_row (outside_names props rules.required) rest in
+            let k = converted (field_parts fs ++ outside_parts os) q in
+            struct-row way st R conv r fol tgt v ps es w p ss ls ns (wanted s) (is_false rest) (struct_fields way st R conv r rules.required props rest)
             (λ ms ps ks m am. keep-from way _ _ _ (ap (λ l. named_agree r ms ps l) e ∙ (λ i. named_agree r ms ps (named props (no-property patterns (no-patterns way n) i) rest names rules)))
-            (struct-agrees way st R conv r props rest names rules (and_left (differ (names_of props)) (differ rules.required) z) (and_right (differ (names_of props)) (differ rules.required) z) (free-left way (counts_notes rules) (names_notes patterns names) c.0) g (parts-left (IsConverted way st R conv) (field_parts fs) (field_parts os) both) (parts-right (IsConverted way st R conv) (field_parts fs) (field_parts os) both) (parts-right (IsConverted way st R conv) (field_parts (fs ++ os)) (option_parts (rest_part rest)) (converted (field_parts (fs ++ os) ++ option_parts (rest_part rest)) q)) ms ps ks m am.0)) t h
+            (struct-taken way st R conv r props rest names rules (and_left (differ (names_of props)) (differ rules.required) z) (and_right (differ (names_of props)) (differ rules.required) z) (free-left way (counts_notes rules) (names_notes patterns names) c.0) g (parts-left (IsConverted way st R conv) (field_parts fs) (outside_parts os) k) (parts-right (IsConverted way st R conv) (field_parts fs) (outside_parts os) k) ms ps ks m am.0)) t h
 
         patterned : (qs : Properties) → patterns ≡ qs → no_property props ≡ true → is_empty rules.required ≡ true → not (is_given names) ≡ true → is_shut rest ≡ true → are_alike qs ≡ true → Holds s (noted (counts_notes rules ++ note_if (not (is_given rest)) (here narrowed names_note)) (pattern_row qs))
         patterned no_properties f a g o u l = λ g0 c q. impossible l

@@ -13,7 +13,8 @@ use Rattle.model_defs.specs.Layer.{MemberPart, no_parts, list_parts, object_part
 use Rattle.entry_defs.specs.Entry.{Target, Entry, boolean_entry, text_entry, native_entry, any_entry, unit_entry}
 use Rattle.entry_defs.specs.Layer as entry
 use Rattle.entry_defs.specs.Layer.{entry_takes, external_takes}
-use Rattle.convert_defs.specs.Standing.{has_type, without_same, without_lists, without_named, is_bare, is_untyped}
+use Rattle.convert_defs.specs.Standing.{is_untyped}
+use Rattle.enum_defs.specs.Words.{has_type, without_same, without_lists, without_named, is_bare}
 use Rattle.convert_defs.specs.Scalars.{never_entry, given_format, ruled_text, rule_of_texts, boolean_finding, lists_both}
 use Rattle.convert_defs.specs.Row.{Way, widened}
 use Rattle.convert_defs.specs.Laws.{Keeps, same_way, Free}

@@ -1,6 +1,6 @@
 -- Internal enums, all branches together.
 use Rattle.schema_defs.specs.declared.Setting.{Setting}
-use Rattle.std.proofs.Common.{◌≡◌, ℕ, suc, List, [], ◌∷◌, map, filter, Bool, true, false, ◌&&◌, ◌||◌, not, Option, Some, None, option_map, option_and_then, refl, sym, ap, ◌∙◌, subst, true≢false, bytes_eq}
+use Rattle.std.proofs.Common.{◌≡◌, ℕ, suc, List, [], ◌∷◌, map, Bool, true, false, ◌&&◌, ◌||◌, not, Option, Some, None, option_map, option_and_then, refl, sym, ap, ◌∙◌, subst, true≢false, bytes_eq}
 use Rattle.std.specs.Prelude.{if◌then◌else◌}
 use Rattle.std.specs.List.{list_all, list_any}
 use Rattle.std.proofs.lemmas.Slice.Eq.{bytes_eq-Decides}
@@ -13,7 +13,7 @@ use Rattle.schema_defs.specs.Layer.{Parts, property_at}
 use Rattle.model_defs.specs.Model.{internal_tag}
 use Rattle.model_defs.specs.Layer as model
 use Rattle.model_defs.specs.Layer.{MemberPart, object_parts, members_in, without}
-use Rattle.entry_defs.specs.Entry.{Target, Entry, no_rest, VariantEntry, fields_of, variants_of}
+use Rattle.entry_defs.specs.Entry.{Target, Entry, no_rest, no_fields, VariantEntry, fields_of, variants_of}
 use Rattle.entry_defs.specs.Layer as entry
 use Rattle.entry_defs.specs.Layer.{entry_takes, variant_named, variant_of_text, tagged_variant, beside_tag, internal_takes, members_take}
 use Rattle.entry_defs.specs.Members.{names_differ, AreMembers}
@@ -21,8 +21,10 @@ use Rattle.entry_defs.proofs.Members.{members_one_by_one}
 use Rattle.convert_defs.specs.Row.{Way, narrowed, widened, here, mixed_branches_note, Part, FieldRow, field_parts, body_parts, VariantRow, variants_parts, enum_row, by_shape}
 use Rattle.convert_defs.specs.IntegerRow.{note_if}
 use Rattle.convert_defs.specs.Standing.{no_keyword}
-use Rattle.convert_defs.specs.Owners.{is_name}
-use Rattle.convert_defs.specs.Shapes.{Member, members_from, ObjectShape, object_shape, names_of, constant_text, constant_in, constant_at, all_some, tag_texts, are_tags, is_tag, are_distinct, first_names, words_or_none, branch_fields, body_of_fields, internal_variant, TaggedShape, some_closed, internal_by, internal_shape}
+use Rattle.enum_defs.specs.Words.{is_name, names_of, all_some}
+use Rattle.convert_defs.proofs.PlacedShapes.{ObjectShape, object_shape, constant_at, tag_texts, are_tags, is_tag, are_distinct, branch_fields, internal_variant, some_closed}
+use Rattle.convert_defs.specs.Shapes.{Member, members_from, words_or_none, body_of_fields, TaggedShape, internal_members as internal_shape}
+use Rattle.enum_defs.specs.Shapes.{constant_text, constant_in}
 use Rattle.convert_defs.specs.Apart.{differ, is_apart, all_apart}
 use Rattle.convert_defs.specs.Table.{one_of_internal}
 use Rattle.convert_defs.specs.Convert.{row_fields, body_content, row_variants, entry_of}
@@ -31,28 +33,19 @@ use Rattle.convert_defs.proofs.Keeps.{keep-equal, keep-from, keep-to, free-note,
 use Rattle.convert_defs.proofs.Bare.{and_left, and_right, impossible, none-some, some-same, or_left, or_right}
 use Rattle.convert_defs.proofs.Views.{View, of_null, of_boolean, of_number, of_text, of_list, of_object, IsConverted, AllParts}
 use Rattle.convert_defs.proofs.Rows.{IsSound, IsClean, parts-left, parts-right, parts-weaker}
-use Rattle.convert_defs.proofs.Objects.{same-differ}
+use Rattle.convert_defs.proofs.Objects.{same-differ, rest-both}
 use Rattle.convert_defs.proofs.ObjectShapes.{shape_member, shape_judge, shape-judged}
 use Rattle.convert_defs.proofs.OneOf.{One, Counted}
 use Rattle.convert_defs.proofs.External.{names, keyed, required-within}
 use Rattle.convert_defs.proofs.Differ.{distinct-differ, head-alone}
 use Rattle.convert_defs.proofs.Fine.{branch-names, member-shape}
 use Rattle.convert_defs.proofs.Internal.{Told, AllTold, counted-told, text_in, tag_key, text-there, beside-members, branch_takes, branch-keeps, tag-value, all-has}
+use Rattle.convert_defs.proofs.PlacedShapes.{internal_with}
+use Rattle.convert_defs.proofs.SameShapes.{whole, internal-found}
 
 constant-there : (m : MaybeSchema) (s : List ℕ) → constant_in m ≡ Some s → (u : Schema) × (m ≡ the_schema u) × (constant_text u ≡ Some s)
 constant-there no_schema s h = none-some s h
 constant-there (the_schema u) s h = (u, refl, h)
-
-first-passes : (p : List ℕ → Bool) (ns : List (List ℕ)) (n : List ℕ) (ms : List (List ℕ)) → filter p ns ≡ n ∷ ms → p n ≡ true
-first-passes p [] n ms h = impossible (ap (λ xs. elim xs [ [] ↦ false | y ∷ ys ↦ true ]) h)
-first-passes p (x ∷ ns) n ms h = by (p x) refl h (first-passes p ns n ms)
-  where
-    first : List (List ℕ) → List ℕ
-    first xs = elim xs [ [] ↦ x | y ∷ ys ↦ y ]
-
-    by : (b : Bool) → p x ≡ b → (if b then x ∷ filter p ns else filter p ns) ≡ n ∷ ms → (filter p ns ≡ n ∷ ms → p n ≡ true) → p n ≡ true
-    by true e h f = ap p (sym (ap first h)) ∙ e
-    by false e h f = f h
 
 module _ (way : Way) (P : List ℕ → Type 0) (st : Setting) (R : Schema → Entry → Type 0) (conv : Part → Entry) (r : Relations) (fol : List ℕ → Bool) (tgt : Target → Bool) (v : Value) (ps : Parts) (es : model.Parts entry.Judge) (w : View way st R r v ps es) where
   abbrev AllOpen : Bool → List ObjectShape → Type 0
@@ -114,9 +107,9 @@ module _ (way : Way) (P : List ℕ → Type 0) (st : Setting) (R : Schema → En
 
     -- ---- one branch
 
-    body-takes : (xs : List (MemberPart entry.Judge)) (fs : List FieldRow) → beside_tag closed xs (body_content conv (internal_tag tag) closed (body_of_fields fs)) ≡ members_take closed (fields_of (row_fields conv fs)) no_rest xs
+    body-takes : (xs : List (MemberPart entry.Judge)) (fs : List FieldRow) → beside_tag closed xs (body_content conv (internal_tag tag) closed (body_of_fields fs)) ≡ members_take closed (fields_of (row_fields conv fs no_fields)) no_rest xs
     body-takes xs [] = refl
-    body-takes xs (f ∷ fs) = refl
+    body-takes xs (f ∷ fs) = ap (λ o. members_take closed (fields_of (row_fields conv (f ∷ fs) no_fields)) o xs) (rest-both way st R conv r (f ∷ fs) no_fields)
 
     body-fields : (fs : List FieldRow) → AllParts (IsSound way P st R conv r fol tgt v ps es w) (body_parts (body_of_fields fs)) → AllParts (IsConverted way st R conv) (field_parts fs)
     body-fields [] h = tt
@@ -136,12 +129,12 @@ module _ (way : Way) (P : List ℕ → Type 0) (st : Setting) (R : Schema → En
       within : list_all (λ n. is_name n (names_of o.props)) o.required_names ≡ true
       within = required-within way P st R conv r fol tgt v ps es w m o e
 
-      fields_differ : names_differ (fields_of (row_fields conv (branch_fields st tag o))) ≡ true
+      fields_differ : names_differ (fields_of (row_fields conv (branch_fields st tag o) no_fields)) ≡ true
       fields_differ = same-differ way st R conv r (branch_fields st tag o) ∙ branch-names P r (record { setting = st; root = boolean true; definitions = [] }) no_keyword no_same no_lists no_named tag o (member-shape P r (record { setting = st; root = boolean true; definitions = [] }) no_keyword no_same no_lists no_named m o apart e)
 
       inside-is : (ks : List (MemberPart entry.Judge)) → AreMembers ks → beside_tag closed (without tag ks) (body_content conv (internal_tag tag) closed (internal_variant st tag o).body)
           ≡ branch_takes way st R conv r tag o u s here_u const req within closed open_way (body-fields (branch_fields st tag o) sound) ks
-      inside-is ks am = body-takes (without tag ks) (branch_fields st tag o) ∙ members_one_by_one closed (fields_of (row_fields conv (branch_fields st tag o))) no_rest (without tag ks) tt fields_differ (beside-members tag ks am)
+      inside-is ks am = body-takes (without tag ks) (branch_fields st tag o) ∙ members_one_by_one closed (fields_of (row_fields conv (branch_fields st tag o) no_fields)) no_rest (without tag ks) tt fields_differ (beside-members tag ks am)
 
       said : {v : Value} {ps : Parts} {es : model.Parts entry.Judge} → View way st R r v ps es → Keeps way (shape_judge o v ps) (keyed s (tag_key tag v) && beside_tag closed (without tag (members_in es)) (body_content conv (internal_tag tag) closed (internal_variant st tag o).body))
       said (of_null ps) = keep-equal way _ _ refl
@@ -230,7 +223,7 @@ module _ (way : Way) (P : List ℕ → Type 0) (st : Setting) (R : Schema → En
       one widened false e f = λ t. ap not e
 
   pub internal-holds : (d : Document) (name : List ℕ) (k : Step) (us : Schemas) → all_apart us ≡ true → (t : TaggedShape) → internal_shape st (members_from k 0 us) ≡ Some t → One way P st R conv r fol tgt v ps es w name us (one_of_internal d (members_from k 0 us) (Some t))
-  internal-holds d name k us a t e = λ g0 c q. by (all_some object_shape (members_from k 0 us)) refl e c q
+  internal-holds d name k us a t e = λ g0 c q. let f = internal-found st (members_from k 0 us) t e in made (map whole (members_from k 0 us)) f.shapes f.tag f.is_one t f.made c q
     where
       tags : (os : List ObjectShape) (n : List ℕ) → is_tag os n ≡ true → (ts : List (List ℕ)) × (tag_texts os n ≡ Some ts) × (are_distinct ts ≡ true) × (list_all (λ o. is_name n o.required_names) os ≡ true)
       tags os n h = by (tag_texts os n) refl h
@@ -240,7 +233,7 @@ module _ (way : Way) (P : List ℕ → Type 0) (st : Setting) (R : Schema → En
           by (Some ts) f h = (ts, f, and_left _ _ h, and_right (are_distinct ts) _ h)
 
       made : (os : List ObjectShape) → all_some object_shape (members_from k 0 us) ≡ Some os → (n : List ℕ) → is_tag os n ≡ true
-          → (x : TaggedShape) → x ≡ record { tag = n; content = []; closed = some_closed os; mixed = some_closed os && list_any (λ o. not o.closed) os; alone = false; variants = map (internal_variant st n) os }
+          → (x : TaggedShape) → x ≡ internal_with st os n
           → IsClean way (one_of_internal d (members_from k 0 us) (Some x)) → AllParts (IsSound way P st R conv r fol tgt v ps es w) (variants_parts x.variants)
           → Keeps way (Counted way P st R conv r fol tgt v ps es w us) (entry_takes r v es tgt (entry_of conv name (enum_row (internal_tag x.tag) (by_shape x.closed) x.variants)))
       made os f n h x z c q =
@@ -252,13 +245,3 @@ module _ (way : Way) (P : List ℕ → Type 0) (st : Setting) (R : Schema → En
           let d = ap differ (texts-are n closed os y.0 y.1) ∙ distinct-differ y.0 y.2 in
           keep-to way _ _ _ (counted-told way P st R conv r fol tgt v ps es w (tag_key n v) (inside n closed) us rows told d)
           (sym (enum-says n closed v rows d) ∙ ap (λ t. entry_takes r v es tgt (entry_of conv name (enum_row (internal_tag t.tag) (by_shape t.closed) t.variants))) (sym z))
-
-      chosen : (os : List ObjectShape) → all_some object_shape (members_from k 0 us) ≡ Some os → (ns : List (List ℕ)) → filter (is_tag os) (first_names os) ≡ ns → internal_by st os ns ≡ Some t → IsClean way (one_of_internal d (members_from k 0 us) (Some t)) → AllParts (IsSound way P st R conv r fol tgt v ps es w) (variants_parts t.variants)
-          → Keeps way (Counted way P st R conv r fol tgt v ps es w us) (entry_takes r v es tgt (entry_of conv name (enum_row (internal_tag t.tag) (by_shape t.closed) t.variants)))
-      chosen os f [] h g c q = none-some t g
-      chosen os f (n ∷ ns) h g c q = made os f n (first-passes (is_tag os) (first_names os) n ns h) t (sym (some-same _ t g)) c q
-
-      by : (x : Option (List ObjectShape)) → all_some object_shape (members_from k 0 us) ≡ x → option_and_then (λ os. internal_by st os (filter (is_tag os) (first_names os))) x ≡ Some t → IsClean way (one_of_internal d (members_from k 0 us) (Some t)) → AllParts (IsSound way P st R conv r fol tgt v ps es w) (variants_parts t.variants)
-          → Keeps way (Counted way P st R conv r fol tgt v ps es w us) (entry_takes r v es tgt (entry_of conv name (enum_row (internal_tag t.tag) (by_shape t.closed) t.variants)))
-      by None f h c q = none-some t h
-      by (Some os) f h c q = chosen os f (filter (is_tag os) (first_names os)) refl h c q

@@ -16,7 +16,7 @@ use Rattle.entry_defs.specs.Entry.{Target, Entry}
 use Rattle.entry_defs.specs.Layer as entry
 use Rattle.entry_defs.specs.Layer.{entry_takes, some_takes}
 use Rattle.convert_defs.specs.Row.{Way, Part, made, enum_row, by_contents, plainly, variants_parts, VariantRow}
-use Rattle.convert_defs.specs.Standing.{same_type, is_bare}
+use Rattle.enum_defs.specs.Words.{same_type, is_bare}
 use Rattle.convert_defs.specs.Table.{type_among, many_of, of_kinds, variant_order, type_variant, type_variants}
 use Rattle.convert_defs.specs.Convert.{row_variants, is_closed}
 use Rattle.convert_defs.specs.Laws.{Keeps}

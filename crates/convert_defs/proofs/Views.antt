@@ -16,8 +16,9 @@ use Rattle.convert_defs.specs.Row.{Way, Part, child, of_branch, lone, made}
 use Rattle.schema_types.specs.Same.{same_schemas}
 use Rattle.schema_defs.specs.Texts.{Relations}
 use Rattle.convert_defs.specs.Convert.{pattern_key, optional_entry, nullable_entry}
-use Rattle.convert_defs.specs.Owners.{any_text, may_be_null, is_name}
-use Rattle.convert_defs.specs.Shapes.{constant_text}
+use Rattle.convert_defs.specs.Owners.{any_text, may_be_null}
+use Rattle.enum_defs.specs.Words.{is_name}
+use Rattle.enum_defs.specs.Shapes.{constant_text}
 use Rattle.convert_defs.specs.Laws.{Keeps}
 use Rattle.convert_defs.proofs.Keeps.{keep-equal, keep-from, keep-to, keep-both, keep-either}
 

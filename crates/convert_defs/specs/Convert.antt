@@ -1,5 +1,5 @@
 -- The entry of a schema, by recursion on the steps that walks may still take, and the conversion tree by the same recursion.
-use Rattle.std.specs.Prelude.{ℕ, zero, suc, List, [], ◌∷◌, ◌++◌, map, Bool, true, false, Option, Some, None, if◌then◌else◌, codes}
+use Rattle.std.specs.Prelude.{ℕ, zero, suc, ◌&&◌, List, [], ◌∷◌, ◌++◌, map, Bool, true, false, Option, Some, None, if◌then◌else◌, codes}
 use Rattle.std.specs.Ordering.{bool_cmp, is_eq}
 use Rattle.std.specs.List.{list_any}
 use Rattle.schema_defs.specs.Location.{Location}
@@ -7,9 +7,9 @@ use Rattle.schema_defs.specs.Texts.{Relations}
 use Rattle.schema_defs.specs.Schema.{Schema, boolean, object, Definition, Document}
 use Rattle.schema_defs.specs.Admits.{definition_location}
 use Rattle.model_defs.specs.Model.{TagModel, untagged, text_rule}
-use Rattle.entry_defs.specs.Entry.{the_root, definition, Entry, text_entry, any_entry, unit_entry, option_entry, vec_entry, set_entry, map_entry, tuple_entry, array_entry, reference, item, Entries, no_entries, entry_then, struct_shape, enum_shape, newtype_shape, Rest, no_rest, rest, Fields, no_fields, field_then, Variants, no_variants, variant_then, Contents, unit_contents, newtype_contents, tuple_contents, struct_contents}
+use Rattle.entry_defs.specs.Entry.{the_root, definition, Entry, text_entry, any_entry, unit_entry, option_entry, vec_entry, set_entry, map_entry, tuple_entry, array_entry, reference, item, Entries, no_entries, entry_then, entry_again, struct_shape, enum_shape, newtype_shape, Rest, no_rest, rest, rest_of, Fields, no_fields, field_then, field_again, rest_field, required, Variants, no_variants, variant_then, Contents, unit_contents, newtype_contents, tuple_contents, struct_contents}
 use Rattle.entry_defs.specs.Table.{ItemEntry, TargetEntry, Table}
-use Rattle.convert_defs.specs.Row.{Part, child, of_branch, lone, made, FieldRow, VariantBody, unit_body, part_body, fields_body, VariantRow, Closing, by_shape, by_contents, Row, leaf_row, as_it_is_row, option_row, ruled_row, vec_row, set_row, array_row, tuple_row, map_row, pattern_map_row, struct_row, enum_row, merged_row, refused_row, row_parts, Note}
+use Rattle.convert_defs.specs.Row.{Part, child, of_branch, lone, made, FieldRow, OutsideRow, VariantBody, unit_body, part_body, fields_body, VariantRow, Closing, by_shape, by_contents, Row, leaf_row, as_it_is_row, option_row, ruled_row, vec_row, set_row, array_row, tuple_row, map_row, pattern_map_row, struct_row, enum_row, merged_row, refused_row, row_parts, Note}
 use Rattle.convert_defs.specs.Order.{ordered}
 use Rattle.convert_defs.specs.Standing.{wanted, words_or}
 use Rattle.convert_defs.specs.RootReference.{refers_to_root}
@@ -24,15 +24,28 @@ abbrev pub unit_in : TagModel → Contents
 unit_in untagged = unit_contents
 unit_in _ = newtype_contents unit_entry
 
--- a tuple of two or more places, a unit, or an inline struct that is closed as the enum is
+abbrev pub has_place : Entries → Bool
+has_place no_entries = false
+has_place _ = true
+
+abbrev pub has_two_places : Entries → Bool
+has_two_places no_entries = false
+has_two_places (entry_then e es) = has_place es
+has_two_places (entry_again es) = has_place es
+
+abbrev pub is_without_rest : Rest → Bool
+is_without_rest no_rest = true
+is_without_rest (rest i e) = false
+
+-- a tuple of two or more places, a unit, or an inline struct without a rest that is closed as the enum is
 abbrev pub content_of : TagModel → Bool → Entry → Contents
-content_of tag closed (tuple_entry (entry_then e (entry_then f es))) = tuple_contents (entry_then e (entry_then f es))
+content_of tag closed (tuple_entry es) = if has_two_places es then tuple_contents es else newtype_contents (tuple_entry es)
 content_of tag closed unit_entry = unit_in tag
-content_of tag closed (item l (struct_shape c fs no_rest)) = if same_flag c closed then struct_contents fs else newtype_contents (item l (struct_shape c fs no_rest))
+content_of tag closed (item l (struct_shape c fs)) = if same_flag c closed && is_without_rest (rest_of fs) then struct_contents fs else newtype_contents (item l (struct_shape c fs))
 content_of tag closed e = newtype_contents e
 
 abbrev pub is_closed_struct : Entry → Bool
-is_closed_struct (item l (struct_shape c fs o)) = c
+is_closed_struct (item l (struct_shape c fs)) = c
 is_closed_struct _ = false
 
 -- texts that have one of the patterns
@@ -56,21 +69,36 @@ abbrev pub nullable_entry : Bool → Entry → Entry
 nullable_entry true e = optional_entry e
 nullable_entry false e = e
 
+-- required fields of one entry, and a rest of it
+abbrev pub alike_fields : List (List ℕ) → Bool → Entry → Fields
+alike_fields [] keeps_rest e = if keeps_rest then rest_field (codes "extra") e else no_fields
+alike_fields (n ∷ []) false e = field_then n n e required no_fields
+alike_fields (n ∷ ns) keeps_rest e = field_again n n (alike_fields ns keeps_rest e)
+
+-- so many places of one entry
+abbrev pub alike_entries : ℕ → Entry → Entries
+alike_entries zero e = no_entries
+alike_entries (suc zero) e = entry_then e no_entries
+alike_entries (suc (suc n)) e = entry_again (alike_entries (suc n) e)
+
 module _ (convert : Part → Entry) where
   abbrev pub field_entry : FieldRow → Entry
   field_entry f = nullable_entry f.nullable (convert f.part)
 
-  abbrev pub row_fields : List FieldRow → Fields
-  row_fields [] = no_fields
-  row_fields (f ∷ fs) = field_then f.name f.name (field_entry f) f.state (row_fields fs)
+  -- and then more fields
+  abbrev pub row_fields : List FieldRow → Fields → Fields
+  row_fields [] more = more
+  row_fields (f ∷ fs) more = field_then f.name f.name (field_entry f) f.state (row_fields fs more)
 
-  abbrev pub row_entries : List Part → Entries
-  row_entries [] = no_entries
-  row_entries (p ∷ ps) = entry_then (convert p) (row_entries ps)
+  -- and then more places
+  abbrev pub row_entries : List Part → Entries → Entries
+  row_entries [] more = more
+  row_entries (p ∷ ps) more = entry_then (convert p) (row_entries ps more)
 
-  abbrev pub rest_entry : Option Part → Rest
-  rest_entry None = no_rest
-  rest_entry (Some p) = rest (codes "extra") (convert p)
+  -- the fields outside `properties`, and the rest: one entry, which stands at the last of them
+  abbrev pub outside_fields : Option OutsideRow → Fields
+  outside_fields None = no_fields
+  outside_fields (Some o) = alike_fields o.names o.keeps_rest (convert o.part)
 
   abbrev pub is_closed_body : VariantBody → Bool
   is_closed_body (part_body p) = is_closed_struct (convert p)
@@ -83,7 +111,7 @@ module _ (convert : Part → Entry) where
   abbrev pub body_content : TagModel → Bool → VariantBody → Contents
   body_content tag closed unit_body = unit_contents
   body_content tag closed (part_body p) = content_of tag closed (convert p)
-  body_content tag closed (fields_body fs) = struct_contents (row_fields fs)
+  body_content tag closed (fields_body fs) = struct_contents (row_fields fs no_fields)
 
   abbrev pub row_variants : TagModel → Bool → List VariantRow → Variants
   row_variants tag closed [] = no_variants
@@ -98,11 +126,11 @@ module _ (convert : Part → Entry) where
   entry_of name (vec_row p) = vec_entry (convert p)
   entry_of name (set_row p) = set_entry (convert p)
   entry_of name (array_row p n) = array_entry (convert p) n
-  entry_of name (tuple_row ps) = tuple_entry (row_entries ps)
+  entry_of name (tuple_row ps n p) = tuple_entry (row_entries ps (alike_entries n (convert p)))
   entry_of name (map_row k p) = map_entry (convert k) (convert p)
   entry_of name (pattern_map_row qs p) =
       map_entry (pattern_key qs) (convert p)
-  entry_of name (struct_row closed fs o) = item name (struct_shape closed (row_fields fs) (rest_entry o))
+  entry_of name (struct_row closed fs o) = item name (struct_shape closed (row_fields fs (outside_fields o)))
   entry_of name (enum_row tag closing ws) = item name (enum_shape (is_closed closing ws) tag (row_variants tag (is_closed closing ws) ws))
   entry_of name (merged_row ps) = any_entry
   entry_of name (refused_row c) = any_entry

@@ -1,14 +1,14 @@
 -- Worked documents: the named entries of the root and the definitions.
-use Rattle.std.specs.Prelude.{◌≡◌, ℕ, ◌&&◌, ◌||◌, not, nat_le, List, [], ◌∷◌, Bool, true, false, Option, Some, None, option_map, codes}
+use Rattle.std.specs.Prelude.{◌≡◌, ℕ, ◌&&◌, ◌||◌, not, nat_le, List, [], ◌∷◌, length, Bool, true, false, Option, Some, None, option_map, codes}
 use Prim.Native.String.{String}
 use Rattle.std.specs.List.{list_all}
 use Rattle.json_value.specs.Value.{Value}
 use Rattle.schema_defs.specs.declared.Setting.TheVariants.{Strict}
 use Rattle.schema_defs.specs.Read.{document_of}
-use Rattle.schema_defs.specs.Build.{num, sample}
+use Rattle.schema_defs.specs.Build.{◌≔◌, str, num, yes, no, obj, arr, sample}
 use Rattle.model_defs.specs.Model.{external_tag, internal_tag, adjacent_tag, text_rule}
-use Rattle.entry_defs.specs.Entry.{u8, u32, i64, nonzero_u8, definition, State, required, optional, stated, Entry, boolean_entry, integer_entry, text_entry, unit_entry, option_entry, vec_entry, set_entry, tuple_entry, reference, item, Entries, entries, Shape, struct_shape, enum_shape, newtype_shape, no_rest, rest, Fields, no_fields, field_then, Variants, no_variants, variant_then, Contents, unit_contents, newtype_contents, tuple_contents, struct_contents}
-use Rattle.entry_defs.specs.Table.{TargetEntry, Table, root_of}
+use Rattle.entry_defs.specs.Entry.{u8, u32, i64, nonzero_u8, definition, State, required, optional, stated, Entry, boolean_entry, integer_entry, text_entry, unit_entry, option_entry, vec_entry, set_entry, tuple_entry, any_entry, reference, item, Entries, no_entries, entry_then, entry_again, entries, Shape, struct_shape, enum_shape, newtype_shape, Fields, no_fields, field_then, field_again, rest_field, Variants, no_variants, variant_then, Contents, unit_contents, newtype_contents, tuple_contents, struct_contents}
+use Rattle.entry_defs.specs.Table.{TargetEntry, Table, root_of, items_of}
 use Rattle.convert_defs.specs.Convert.{table_of}
 use Rattle.naming_defs.specs.Names.{named_table, is_among}
 use Rattle.convert_defs.specs.Worked.{constant_text, tag_alone, row_1, row_2c, row_3, row_4, row_a, row_5, row_6a, row_8, row_9, row_b, row_11, row_14, row_16b, row_18, row_22a, row_22b, row_c}
@@ -54,15 +54,49 @@ word = integer_entry u32
 abbrev pub pair : Entries → Contents
 pair es = tuple_contents es
 
+-- ---- one schema that several places share: it is converted once
+
+abbrev pub integers : Value
+integers = obj ("type" ≔ str "integer" ∷ [])
+
+-- {"additionalProperties": {"properties": {"a": true}, "type": "object"}, "required": ["a", "b"], "type": "object"}
+abbrev pub shared_members : Value
+shared_members = obj ("additionalProperties" ≔ obj ("properties" ≔ obj ("a" ≔ yes ∷ []) ∷ "type" ≔ str "object" ∷ []) ∷ "required" ≔ arr (str "a" ∷ str "b" ∷ []) ∷ "type" ≔ str "object" ∷ [])
+
+-- {"additionalProperties": false, "properties": {"c": integer}, "required": ["a", "b", "c"], "type": "object"}
+abbrev pub shared_never : Value
+shared_never = obj ("additionalProperties" ≔ no ∷ "properties" ≔ obj ("c" ≔ integers ∷ []) ∷ "required" ≔ arr (str "a" ∷ str "b" ∷ str "c" ∷ []) ∷ "type" ≔ str "object" ∷ [])
+
+-- {"additionalItems": {"properties": {"a": true}, "type": "object"}, "items": [integer], "maxItems": 3, "minItems": 3, "type": "array"}
+abbrev pub shared_places : Value
+shared_places = obj ("additionalItems" ≔ obj ("properties" ≔ obj ("a" ≔ yes ∷ []) ∷ "type" ≔ str "object" ∷ []) ∷ "items" ≔ arr (integers ∷ []) ∷ "maxItems" ≔ num 3 ∷ "minItems" ≔ num 3 ∷ "type" ≔ str "array" ∷ [])
+
+abbrev pub inner : Entry
+inner = the "Type0" (struct_shape false (field "a" any_entry optional no_fields))
+
+abbrev pub again : String → Fields → Fields
+again n fs = field_again (codes n) (codes n) fs
+
+abbrev pub items_named : Value → Option ℕ
+items_named s = option_map (λ t. length (items_of t)) (named_of s)
+
+pub record SharedEntries : Type 0 where
+  pub members : root_named shared_members ≡ Some (the "Root" (struct_shape false (again "a" (again "b" (rest_field (codes "extra") inner)))))
+  pub items_of_members : items_named shared_members ≡ Some 2
+  pub never : root_named shared_never ≡ Some (the "Root" (struct_shape true (field "c" whole required (again "a" (field "b" (the "Type0" (enum_shape false external_tag no_variants)) required no_fields)))))
+  pub items_of_never : items_named shared_never ≡ Some 2
+  pub places : root_named shared_places ≡ Some (tuple_entry (entry_then whole (entry_again (entry_then inner no_entries))))
+  pub items_of_places : items_named shared_places ≡ Some 1
+
 pub record WorkedEntries : Type 0 where
   pub constant : root_named constant_text ≡ Some (the "Root" (enum_shape false external_tag (variant "a" unit_contents no_variants)))
   pub adjacent : root_named tag_alone ≡ Some (the "Root" (enum_shape false (adjacent_tag (codes "t") (codes "c")) (variant "x" (newtype_contents whole) (variant "y" unit_contents no_variants))))
-  pub closed_object : root_named row_1 ≡ Some (the "Root" (struct_shape true (field "id" whole required (field "name" text_entry required no_fields)) no_rest))
+  pub closed_object : root_named row_1 ≡ Some (the "Root" (struct_shape true (field "id" whole required (field "name" text_entry required no_fields))))
   pub set : root_named row_2c ≡ Some (set_entry whole)
-  pub no_members : root_named row_3 ≡ Some (the "Root" (struct_shape true no_fields no_rest))
-  pub optional_text : root_named row_4 ≡ Some (the "Root" (struct_shape false (field "s" text_entry optional no_fields) no_rest))
-  pub a_rest : root_named row_a ≡ Some (the "Root" (struct_shape false (field "a" boolean_entry optional no_fields) (rest (codes "extra") whole)))
-  pub nullable : root_named row_5 ≡ Some (the "Root" (struct_shape false (field "s" (option_entry text_entry) required no_fields) no_rest))
+  pub no_members : root_named row_3 ≡ Some (the "Root" (struct_shape true no_fields))
+  pub optional_text : root_named row_4 ≡ Some (the "Root" (struct_shape false (field "s" text_entry optional no_fields)))
+  pub a_rest : root_named row_a ≡ Some (the "Root" (struct_shape false (field "a" boolean_entry optional (rest_field (codes "extra") whole))))
+  pub nullable : root_named row_5 ≡ Some (the "Root" (struct_shape false (field "s" (option_entry text_entry) required no_fields)))
   pub pair_of_integers : root_named row_6a ≡ Some (tuple_entry (entries (whole ∷ integer_entry u8 ∷ [])))
   pub nonzero : root_named row_8 ≡ Some (integer_entry nonzero_u8)
   pub by_greatest : root_named row_9 ≡ Some (integer_entry u8)
@@ -75,14 +109,14 @@ pub record WorkedEntries : Type 0 where
       (variant "Echo" (tuple_contents (entries (option_entry text_entry ∷ text_entry ∷ text_entry ∷ []))) no_variants)))))))
   pub internal : root_named row_14 ≡ Some (the "Root" (enum_shape true (internal_tag (codes "k")) (variant "a" unit_contents (variant "b" unit_contents no_variants))))
   pub a_reference : root_named row_16b ≡ Some (reference (definition (codes "A")))
-  pub recursive : targets_named row_16b ≡ Some (defined "A" "A" (struct_shape false (field "next" (reference (definition (codes "A"))) optional no_fields) no_rest) ∷ [])
+  pub recursive : targets_named row_16b ≡ Some (defined "A" "A" (struct_shape false (field "next" (reference (definition (codes "A"))) optional no_fields)) ∷ [])
   pub renamed : root_named row_18 ≡ Some (the "Root" (struct_shape false
       (field_then (codes "field0") (codes "a b") (reference (definition (codes "X"))) required
-      (field_then (codes "field1") (codes "type") (reference (definition (codes "i64"))) required no_fields)) no_rest))
+      (field_then (codes "field1") (codes "type") (reference (definition (codes "i64"))) required no_fields))))
   pub named_first : targets_named row_18 ≡ Some (
       defined "PhantomData" "PhantomData" (newtype_shape text_entry None)
       ∷ defined "X" "X" (newtype_shape (reference (definition (codes "PhantomData"))) None)
       ∷ defined "i64" "Type0" (newtype_shape whole None) ∷ [])
   pub null_alone : root_named row_22a ≡ Some unit_entry
   pub never : root_named row_22b ≡ Some (the "EmptyAnyOf" (enum_shape false external_tag no_variants))
-  pub stated_default : root_named row_c ≡ Some (the "Root" (struct_shape false (field "n" whole (stated (num 7)) (field "t" (vec_entry text_entry) optional no_fields)) no_rest))
+  pub stated_default : root_named row_c ≡ Some (the "Root" (struct_shape false (field "n" whole (stated (num 7)) (field "t" (vec_entry text_entry) optional no_fields))))

@@ -7,13 +7,16 @@ pub mod Scalars
 pub mod Owners
 pub mod Shapes
 pub mod Apart
-pub mod Kinds
 pub mod Table
 pub mod Convert
 pub mod Faults
+pub mod Values
+pub mod WorkedValues
 pub mod Worked
 pub mod Entries
 pub mod Laws
+pub mod Chains
 pub mod WorkedFaults
 pub mod Pages
+pub mod StagePages
 pub mod Proper

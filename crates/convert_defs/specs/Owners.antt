@@ -1,6 +1,6 @@
 -- The rows of arrays and of objects.
-use Rattle.std.specs.Prelude.{ℕ, zero, suc, ◌&&◌, ◌||◌, not, nat_eq, nat_lt, List, [], ◌∷◌, ◌++◌, Bool, true, false, Option, Some, None, is_none, is_some, bytes_eq, codes, if◌then◌else◌}
-use Rattle.std.specs.List.{list_any, list_all}
+use Rattle.std.specs.Prelude.{ℕ, zero, suc, ◌&&◌, ◌||◌, not, nat_eq, nat_lt, List, [], ◌∷◌, ◌++◌, filter, Bool, true, false, Option, Some, None, is_none, is_some, codes, if◌then◌else◌}
+use Rattle.std.specs.List.{list_all}
 use Rattle.json_value.specs.Value.{Value}
 use Rattle.schema_defs.specs.declared.InstanceType.TheVariants.{Text}
 use Rattle.schema_defs.specs.declared.Setting.{Setting}
@@ -11,8 +11,9 @@ use Rattle.schema_defs.specs.Layer.{property_at, is_given}
 use Rattle.model_defs.specs.Layer.{is_text}
 use Rattle.schema_types.specs.Same.{same_schemas}
 use Rattle.entry_defs.specs.Entry.{State, required, optional, stated}
-use Rattle.convert_defs.specs.Row.{Part, child, made, FieldRow, Row, vec_row, set_row, array_row, tuple_row, map_row, pattern_map_row, struct_row, refused_row, bad_array, names, Note, here, narrowed, widened, array_note, counts_note, names_note, Finding, noted, plainly, asking, filling}
-use Rattle.convert_defs.specs.Standing.{has_type, without_same, without_lists, without_named, no_keyword, of_type, alone}
+use Rattle.convert_defs.specs.Row.{Part, child, made, FieldRow, OutsideRow, Row, vec_row, set_row, array_row, tuple_row, map_row, pattern_map_row, struct_row, refused_row, bad_array, names, Note, here, narrowed, widened, array_note, counts_note, names_note, Finding, noted, plainly, asking, filling}
+use Rattle.convert_defs.specs.Standing.{no_keyword, of_type, alone}
+use Rattle.enum_defs.specs.Words.{has_type, without_same, without_lists, without_named, is_name}
 use Rattle.convert_defs.specs.IntegerRow.{note_if}
 
 abbrev pub anything : Part
@@ -59,14 +60,20 @@ list_notes c = note_if (is_true c.unique_items || above_zero c.min_items || is_s
 abbrev pub open_list : ListRules → Part → Row
 open_list c p = if is_true c.unique_items then set_row p else vec_row p
 
--- n places, the first of them at place i: those listed, and then the rest
-abbrev pub filled : ℕ → ℕ → Schemas → Part → List Part
-filled i zero ss rest = []
-filled i (suc n) no_more rest = rest ∷ filled (suc i) n no_more rest
-filled i (suc n) (schema s ss) rest = child (codes "items" ∷ place i ∷ []) s ∷ filled (suc i) n ss rest
+-- of n places, the first of them at place i, those that are listed
+abbrev pub listed_parts : ℕ → ℕ → Schemas → List Part
+listed_parts i zero ss = []
+listed_parts i (suc n) no_more = []
+listed_parts i (suc n) (schema s ss) = child (codes "items" ∷ place i ∷ []) s ∷ listed_parts (suc i) n ss
+
+-- how many of n places are not listed
+abbrev pub unlisted : ℕ → Schemas → ℕ
+unlisted n no_more = n
+unlisted zero (schema s ss) = 0
+unlisted (suc n) (schema s ss) = unlisted n ss
 
 abbrev pub fixed_row : ℕ → Places → MaybeSchema → Row
-fixed_row n (by_place ss) rest = tuple_row (filled 0 n ss (part_at (codes "additionalItems") rest))
+fixed_row n (by_place ss) rest = tuple_row (listed_parts 0 n ss) (unlisted n ss) (part_at (codes "additionalItems") rest)
 fixed_row n places rest = array_row (each_part places) n
 
 abbrev pub is_by_place : Places → Bool
@@ -99,13 +106,10 @@ abbrev pub is_false : MaybeSchema → Bool
 is_false (the_schema (boolean false)) = true
 is_false _ = false
 
--- the schema under `additionalProperties`, but where it is a boolean
-abbrev pub rest_part : MaybeSchema → Option Part
-rest_part (the_schema (object p ss ls ns)) = Some (child (codes "additionalProperties" ∷ []) (object p ss ls ns))
-rest_part _ = None
-
-abbrev pub is_name : List ℕ → List (List ℕ) → Bool
-is_name n ns = list_any (bytes_eq n) ns
+-- a schema under `additionalProperties` that is no boolean
+abbrev pub keeps_rest : MaybeSchema → Bool
+keeps_rest (the_schema (object p ss ls ns)) = true
+keeps_rest _ = false
 
 abbrev pub default_of : Schema → Option Value
 default_of (boolean b) = None
@@ -129,14 +133,17 @@ property_fields setting req (property k s ps) =
 abbrev pub other_part : MaybeSchema → Part
 other_part rest = part_at (codes "additionalProperties") rest
 
-abbrev pub required_fields : Properties → Part → List (List ℕ) → List FieldRow
-required_fields props other [] = []
-required_fields props other (n ∷ ns) =
-    if is_given (property_at n props) then required_fields props other ns
-    else record { name = n; part = other; state = required; nullable = false } ∷ required_fields props other ns
+-- the names that are required and no property's
+abbrev pub outside_names : Properties → List (List ℕ) → List (List ℕ)
+outside_names props ns = filter (λ n. not (is_given (property_at n props))) ns
+
+-- nothing where no such name is required and no rest is kept
+abbrev pub outside_row : List (List ℕ) → MaybeSchema → Option OutsideRow
+outside_row [] rest = if keeps_rest rest then Some (record { names = []; part = other_part rest; keeps_rest = true }) else None
+outside_row (n ∷ ns) rest = Some (record { names = n ∷ ns; part = other_part rest; keeps_rest = keeps_rest rest })
 
 abbrev pub struct_of : Setting → Properties → MaybeSchema → MemberRules → Row
-struct_of setting props rest rules = struct_row (is_false rest) (property_fields setting rules.required props ++ required_fields props (other_part rest) rules.required) (rest_part rest)
+struct_of setting props rest rules = struct_row (is_false rest) (property_fields setting rules.required props) (outside_row (outside_names props rules.required) rest)
 
 abbrev pub no_property : Properties → Bool
 no_property no_properties = true

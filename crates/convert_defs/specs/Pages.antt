@@ -1,6 +1,7 @@
 -- Worked documents that tell readings of the rows apart: the number of items, the notes, and which values the root's entry takes; or the first fault.
 use Rattle.std.specs.Prelude.{◌≡◌, ℕ, List, [], ◌∷◌, length, map, Bool, true, false, Option, Some, option_map, codes}
 use Rattle.json_value.specs.Value.{Value, null}
+use Rattle.schema_defs.specs.declared.Setting.{Setting}
 use Rattle.schema_defs.specs.declared.Setting.TheVariants.{Strict}
 use Rattle.schema_defs.specs.Location.{Location, location_text}
 use Rattle.schema_defs.specs.Schema.{Document}
@@ -20,8 +21,11 @@ abbrev pub answer_of : ℕ → Document → List Value → List (Location × Cau
 answer_of n d vs [] = page (length (items_of (table_of sample d n))) (map (λ m. (m.way, m.kind, location_text m.place)) (notes_of sample d n)) (verdicts_of (table_of sample d n) vs)
 answer_of n d vs (f ∷ fs) = fault (location_text f.0) f.1
 
+abbrev pub answered_under : Setting → ℕ → Value → List Value → Option Answer
+answered_under setting n s vs = option_map (λ d. answer_of n d vs (faults_of sample d n)) (document_of setting s)
+
 abbrev pub answered : ℕ → Value → List Value → Option Answer
-answered n s vs = option_map (λ d. answer_of n d vs (faults_of sample d n)) (document_of Strict s)
+answered n s vs = answered_under Strict n s vs
 
 pub record FirstPages : Type 0 where
   pub row_option_before_reference : answered 8 (obj ("$ref" ≔ (str "#/definitions/A") ∷ "definitions" ≔ (obj ("A" ≔ (obj ("type" ≔ (str "string") ∷ [])) ∷ [])) ∷ "type" ≔ (arr ((str "string") ∷ (str "null") ∷ [])) ∷ [])) (null ∷ (str "a") ∷ [])

@@ -1,6 +1,6 @@
 -- What the first row that fits makes of one schema. A part is a schema that the row converts: a child, by the steps to it; a child of a branch;
 -- a lone member, which stands in the place of the schema; or a schema made in its place.
-use Rattle.std.specs.Prelude.{ℕ, List, [], ◌∷◌, ◌++◌, Bool, Option, Some, None}
+use Rattle.std.specs.Prelude.{ℕ, zero, suc, List, [], ◌∷◌, ◌++◌, Bool, Option, Some, None}
 use Rattle.schema_defs.specs.Location.{Location}
 use Rattle.schema_defs.specs.Schema.{Schema}
 use Rattle.model_defs.specs.Model.{TagModel, RuleD}
@@ -60,6 +60,13 @@ pub record FieldRow : Type 0 where
   pub state : State
   pub nullable : Bool
 
+-- The members of an object that `properties` does not name: the names among them that `required` lists, the one part that they are converted to,
+-- and whether a field keeps the rest of them.
+pub record OutsideRow : Type 0 where
+  pub names : List (List ℕ)
+  pub part : Part
+  pub keeps_rest : Bool
+
 pub data VariantBody : Type 0 where
   unit_body : VariantBody
   part_body : Part → VariantBody
@@ -82,10 +89,11 @@ pub data Row : Type 0 where
   vec_row : Part → Row
   set_row : Part → Row
   array_row : Part → ℕ → Row
-  tuple_row : List Part → Row
+  -- the places that are listed, and then so many of the one part
+  tuple_row : List Part → ℕ → Part → Row
   map_row : Part → Part → Row
   pattern_map_row : List (List ℕ) → Part → Row
-  struct_row : Bool → List FieldRow → Option Part → Row
+  struct_row : Bool → List FieldRow → Option OutsideRow → Row
   enum_row : TagModel → Closing → List VariantRow → Row
   merged_row : List Part → Row
   refused_row : Cause → Row
@@ -126,9 +134,14 @@ abbrev pub field_parts : List FieldRow → List Part
 field_parts [] = []
 field_parts (f ∷ fs) = f.part ∷ field_parts fs
 
-abbrev pub option_parts : Option Part → List Part
-option_parts None = []
-option_parts (Some p) = p ∷ []
+abbrev pub outside_parts : Option OutsideRow → List Part
+outside_parts None = []
+outside_parts (Some o) = o.part ∷ []
+
+-- one part, where there is a place of it
+abbrev pub further_parts : ℕ → Part → List Part
+further_parts zero p = []
+further_parts (suc n) p = p ∷ []
 
 abbrev pub body_parts : VariantBody → List Part
 body_parts unit_body = []
@@ -147,10 +160,10 @@ row_parts (ruled_row p rule) = p ∷ []
 row_parts (vec_row p) = p ∷ []
 row_parts (set_row p) = p ∷ []
 row_parts (array_row p n) = p ∷ []
-row_parts (tuple_row ps) = ps
+row_parts (tuple_row ps n p) = ps ++ further_parts n p
 row_parts (map_row k p) = k ∷ p ∷ []
 row_parts (pattern_map_row qs p) = p ∷ []
-row_parts (struct_row closed fs rest) = field_parts fs ++ option_parts rest
+row_parts (struct_row closed fs o) = field_parts fs ++ outside_parts o
 row_parts (enum_row tag closing ws) = variants_parts ws
 row_parts (merged_row ps) = []
 row_parts (refused_row c) = []

@@ -12,12 +12,15 @@ use Rattle.model_defs.specs.Model.{external_tag, internal_tag, adjacent_tag, unt
 use Rattle.model_defs.specs.Layer.{is_null, is_text, is_boolean}
 use Rattle.entry_defs.specs.Entry.{Target, the_root, definition, integer_entry, any_entry, unit_entry, reference}
 use Rattle.convert_defs.specs.Row.{Part, child, lone, made, Row, leaf_row, as_it_is_row, option_row, ruled_row, enum_row, merged_row, refused_row, VariantRow, part_body, by_shape, by_contents, conditional, mix, bad_not, nested_enum, Cause, Note, here, narrowed, widened, untyped_note, null_note, const_note, string_note, open_branch_note, mixed_branches_note, tag_alone_note, type_note, overlap_note, not_note, Finding, noted, plainly, add_notes, asking, branching}
-use Rattle.convert_defs.specs.Standing.{same_type, has_type, without_same, without_lists, without_named, is_bare, is_untyped, has_conditional, less_types, less_enum, less_const, less_reference, of_type, no_keyword, alone}
+use Rattle.convert_defs.specs.Standing.{is_untyped, has_conditional, less_types, less_enum, less_const, less_reference, of_type, no_keyword, alone}
+use Rattle.enum_defs.specs.Words.{as_text, same_type, has_type, without_same, without_lists, without_named, is_bare}
 use Rattle.convert_defs.specs.IntegerRow.{integer_of, integer_notes, note_if}
 use Rattle.convert_defs.specs.Scalars.{string_finding, enumerated, boolean_finding, listed_alone, never_entry, wanted_of, patterns_in, less_null, non_null, is_owner, is_number}
 use Rattle.convert_defs.specs.Owners.{array_finding, object_finding}
-use Rattle.convert_defs.specs.Shapes.{Member, members_from, is_null_schema, is_odd_null, text_or_none, text_case, option_shape, external_shape, adjacent_shape, internal_shape, TaggedShape, ObjectShape, object_shape}
-use Rattle.convert_defs.specs.Kinds.{exclusive, null_free}
+use Rattle.enum_defs.specs.Shapes.{is_null_schema, text_cases, ObjectShape, object_shape}
+use Rattle.convert_defs.specs.Shapes.{Member, members_from, schemas_of, is_odd_null, option_member, external_members, adjacent_members, internal_members, TaggedShape}
+use Rattle.enum_defs.specs.Exclusive.{exclusive}
+use Rattle.enum_defs.specs.Kinds.{null_free}
 
 -- ---- the parts of the table
 
@@ -149,7 +152,7 @@ is_open_shape None = false
 is_open_shape (Some o) = not o.closed
 
 abbrev pub is_open_object : Member → Bool
-is_open_object m = is_open_shape (object_shape m)
+is_open_object m = is_open_shape (object_shape m.1)
 
 abbrev pub open_branches : List Member → List Note
 open_branches ms = map (λ m. record { way = narrowed; kind = open_branch_note; place = m.0 }) (filter is_open_object ms)
@@ -160,7 +163,7 @@ has_text_keywords (boolean b) = false
 has_text_keywords (object p ss ls ns) = is_some p.texts
 
 abbrev pub is_ruled_text : Member → Bool
-is_ruled_text m = is_some (text_case m.1) && has_text_keywords m.1
+is_ruled_text m = is_some (text_cases m.1) && has_text_keywords m.1
 
 abbrev pub text_branches : List Member → List Note
 text_branches ms = map (λ m. record { way = widened; kind = string_note; place = m.0 }) (filter is_ruled_text ms)
@@ -184,7 +187,7 @@ odd_nulls ms = note_if (list_any is_odd_null ms) (here widened null_note)
 -- option, external, adjacent, internal, the only member, untagged, in this order
 abbrev pub one_of_only : Document → List Member → Option Member → Finding
 one_of_only d ms (Some m) = plainly (as_it_is_row (lone_part m))
-one_of_only d ms None = noted (note_if (not (exclusive d ms)) (here widened overlap_note)) (untagged_row ms)
+one_of_only d ms None = noted (note_if (not (exclusive d (schemas_of ms))) (here widened overlap_note)) (untagged_row ms)
 
 abbrev pub one_of_internal : Document → List Member → Option TaggedShape → Finding
 one_of_internal d ms (Some t) = branching ms (noted (mixed_notes t) (internal_row t))
@@ -192,30 +195,30 @@ one_of_internal d ms None = one_of_only d ms (only_member ms)
 
 abbrev pub one_of_adjacent : Document → List Member → Option TaggedShape → Finding
 one_of_adjacent d ms (Some t) = branching ms (noted (mixed_notes t) (adjacent_row t))
-one_of_adjacent d ms None = one_of_internal d ms (internal_shape d.setting ms)
+one_of_adjacent d ms None = one_of_internal d ms (internal_members d.setting ms)
 
 abbrev pub one_of_external : Document → List Member → Option (List VariantRow) → Finding
 one_of_external d ms (Some ws) = branching ms (noted (open_branches ms ++ text_branches ms) (enum_row external_tag by_contents ws))
-one_of_external d ms None = one_of_adjacent d ms (adjacent_shape ms)
+one_of_external d ms None = one_of_adjacent d ms (adjacent_members ms)
 
 abbrev pub one_null_member : List Member → Bool
 one_null_member ms = nat_eq (length (filter (λ n. is_null_schema n.1) ms)) 1
 
 abbrev pub one_of_option : Document → List Member → Option Member → Finding
 one_of_option d ms (Some m) = noted (odd_nulls ms ++ note_if (not (null_free d m.1) || not (one_null_member ms)) (here widened null_note)) (option_row (member_part m))
-one_of_option d ms None = one_of_external d ms (external_shape ms)
+one_of_option d ms None = one_of_external d ms (external_members ms)
 
 abbrev pub one_of_finding : Document → List ℕ → List Member → Finding
-one_of_finding d name ms = one_of_option d ms (option_shape ms)
+one_of_finding d name ms = one_of_option d ms (option_member ms)
 
 -- where no member but one is null
 abbrev pub any_of_others : Document → List ℕ → List Member → Option Member → Finding
 any_of_others d name ms (Some m) = noted (odd_nulls ms) (option_row (member_part m))
-any_of_others d name ms None = if exclusive d ms then one_of_finding d name ms else plainly (untagged_row ms)
+any_of_others d name ms None = if exclusive d (schemas_of ms) then one_of_finding d name ms else plainly (untagged_row ms)
 
 abbrev pub any_of_finding : Document → List ℕ → List Member → Finding
 any_of_finding d name [] = plainly (leaf_row (never_entry name))
-any_of_finding d name (m ∷ ms) = any_of_others d name (m ∷ ms) (option_shape (m ∷ ms))
+any_of_finding d name (m ∷ ms) = any_of_others d name (m ∷ ms) (option_member (m ∷ ms))
 
 abbrev pub all_of_finding : List Member → Finding
 all_of_finding (m ∷ []) = plainly (as_it_is_row (lone_part m))
@@ -261,7 +264,7 @@ subschema_finding d name _ = None
 -- ---- a text that is constant, as a list of one
 
 abbrev pub constant_of : Plain → Option (List ℕ)
-constant_of p = option_and_then text_or_none p.const_value
+constant_of p = option_and_then as_text p.const_value
 
 abbrev pub constant_list : List ℕ → Option (List Value) → List Value
 constant_list s None = text s ∷ []

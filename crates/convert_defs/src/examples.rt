@@ -1,8 +1,10 @@
 //! Worked examples: each group is the contract of a function that does nothing.
 
-ghost use Rattle.convert_defs.specs.Entries.{WorkedEntries};
+ghost use Rattle.convert_defs.specs.Entries.{SharedEntries, WorkedEntries};
 ghost use Rattle.convert_defs.specs.Pages.{FirstPages, SecondPages};
+ghost use Rattle.convert_defs.specs.StagePages.{MoreStagePages, StagePages};
 ghost use Rattle.convert_defs.specs.WorkedFaults.{WorkedFaults};
+ghost use Rattle.convert_defs.specs.WorkedValues.{WorkedValues};
 ghost use Rattle.convert_defs.specs.Worked.{WorkedVerdicts, WorkedNotes};
 
 /// Which values the entries of worked documents take.
@@ -20,6 +22,11 @@ pub fn worked_entries()
     ensures { WorkedEntries }
 {}
 
+/// What several places share is converted once.
+pub fn shared_entries()
+    ensures { SharedEntries }
+{}
+
 /// Worked documents that are not converted, and the places of conversion trees.
 pub fn worked_faults()
     ensures { WorkedFaults }
@@ -33,4 +40,19 @@ pub fn first_pages()
 /// More of them.
 pub fn second_pages()
     ensures { SecondPages }
+{}
+
+/// Worked documents with their pages: objects, arrays, integers and enums.
+pub fn stage_pages()
+    ensures { StagePages }
+{}
+
+/// More of them: references, constants, null as absence, faults, and what places share.
+pub fn more_stage_pages()
+    ensures { MoreStagePages }
+{}
+
+/// Defaults and listed values that aren't read.
+pub fn worked_values()
+    ensures { WorkedValues }
 {}

@@ -1,5 +1,6 @@
 //! What holds of conversion: each law is the contract of a function that does nothing.
 
+ghost use Rattle.convert_defs.specs.Chains.{ChainsEnd};
 ghost use Rattle.convert_defs.specs.Order.{NotesAreOrdered};
 ghost use Rattle.convert_defs.specs.Laws.{ConversionAgrees, RootAgrees, TablesAreFit};
 
@@ -21,4 +22,9 @@ pub fn root_agrees()
 /// The notes of a document come in their order, each once: by path, then by kind, then narrowed before widened.
 pub fn notes_are_ordered()
     ensures { NotesAreOrdered }
+{}
+
+/// Schemas that rows make one of another, in the place of one written schema, come to an end before the bound.
+pub fn chains_end()
+    ensures { ChainsEnd }
 {}

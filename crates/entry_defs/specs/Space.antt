@@ -1,9 +1,8 @@
 -- A space of entries with ids, seen through the trees that it holds: a tree stands at an id where the entry there has its form, and its parts stand at the ids there.
 use Rattle.std.specs.Prelude.{◌≡◌, ℕ, zero, suc, List, [], ◌∷◌, ◌++◌, Bool, true, Option, Some, None, ⊤}
-use Rattle.json_value.specs.Value.{Value}
 use Rattle.schema_defs.specs.declared.Format.{Format}
 use Rattle.model_defs.specs.Model.{TagModel, RuleD}
-use Rattle.entry_defs.specs.Entry.{IntegerName, Target, State, Entry, boolean_entry, integer_entry, text_entry, native_entry, any_entry, unit_entry, option_entry, vec_entry, set_entry, map_entry, tuple_entry, array_entry, reference, item, Entries, no_entries, entry_then, Shape, struct_shape, enum_shape, newtype_shape, Fields, no_fields, field_then, Rest, no_rest, rest, Variants, no_variants, variant_then, Contents, unit_contents, newtype_contents, tuple_contents, struct_contents}
+use Rattle.entry_defs.specs.Entry.{IntegerName, Target, State, required, Entry, boolean_entry, integer_entry, text_entry, native_entry, any_entry, unit_entry, option_entry, vec_entry, set_entry, map_entry, tuple_entry, array_entry, reference, item, Entries, no_entries, entry_then, entry_again, Shape, struct_shape, enum_shape, newtype_shape, Fields, no_fields, field_then, field_again, rest_field, Variants, no_variants, variant_then, Contents, unit_contents, newtype_contents, tuple_contents, struct_contents}
 
 -- ---- entries whose parts are ids
 
@@ -60,6 +59,19 @@ entry_at [] i = None
 entry_at (e ∷ es) zero = Some e
 entry_at (e ∷ es) (suc i) = entry_at es i
 
+-- the id at the next place, and that of the next field, or of the rest
+abbrev pub next_id : List Id → Option Id
+next_id [] = None
+next_id (j ∷ js) = Some j
+
+abbrev pub rest_id : Option RestAt → Option Id
+rest_id None = None
+rest_id (Some p) = Some p.entry
+
+abbrev pub next_field_id : List FieldAt → Option RestAt → Option Id
+next_field_id [] p = rest_id p
+next_field_id (g ∷ gs) p = Some g.entry
+
 -- ---- the trees that a space holds; `leads` says at which ids the items stand that references lead to
 
 module _ (leads : Target → Id → Bool) (space : Space) where
@@ -84,22 +96,20 @@ module _ (leads : Target → Id → Bool) (space : Space) where
     pub HoldsEntries : Entries → List Id → Type 0
     HoldsEntries no_entries [] = ⊤
     HoldsEntries (entry_then e es) (j ∷ js) = Holds e j × HoldsEntries es js
+    HoldsEntries (entry_again es) (j ∷ js) = (next_id js ≡ Some j) × HoldsEntries es js
     HoldsEntries _ _ = ⊥
 
     pub HoldsShape : Shape → ShapeAt → Type 0
-    HoldsShape (struct_shape closed fs o) s = (gs : List FieldAt) × (p : Option RestAt) × (s ≡ struct_shape_at closed gs p) × HoldsFields fs gs × HoldsRest o p
+    HoldsShape (struct_shape closed fs) s = (gs : List FieldAt) × (p : Option RestAt) × (s ≡ struct_shape_at closed gs p) × HoldsFields fs gs p
     HoldsShape (enum_shape closed tag ws) s = (xs : List VariantAt) × (s ≡ enum_shape_at closed tag xs) × HoldsVariants ws xs
     HoldsShape (newtype_shape e rule) s = (j : Id) × (s ≡ newtype_shape_at j rule) × Holds e j
 
-    pub HoldsFields : Fields → List FieldAt → Type 0
-    HoldsFields no_fields [] = ⊤
-    HoldsFields (field_then i n e s fs) (g ∷ gs) = (g.identifier ≡ i) × (g.name ≡ n) × (g.state ≡ s) × Holds e g.entry × HoldsFields fs gs
-    HoldsFields _ _ = ⊥
-
-    pub HoldsRest : Rest → Option RestAt → Type 0
-    HoldsRest no_rest None = ⊤
-    HoldsRest (rest i e) (Some p) = (p.identifier ≡ i) × Holds e p.entry
-    HoldsRest _ _ = ⊥
+    pub HoldsFields : Fields → List FieldAt → Option RestAt → Type 0
+    HoldsFields no_fields [] None = ⊤
+    HoldsFields (field_then i n e s fs) (g ∷ gs) p = (g.identifier ≡ i) × (g.name ≡ n) × (g.state ≡ s) × Holds e g.entry × HoldsFields fs gs p
+    HoldsFields (field_again i n fs) (g ∷ gs) p = (g.identifier ≡ i) × (g.name ≡ n) × (g.state ≡ required) × (next_field_id gs p ≡ Some g.entry) × HoldsFields fs gs p
+    HoldsFields (rest_field i e) [] (Some p) = (p.identifier ≡ i) × Holds e p.entry
+    HoldsFields _ _ _ = ⊥
 
     pub HoldsVariants : Variants → List VariantAt → Type 0
     HoldsVariants no_variants [] = ⊤
@@ -110,7 +120,7 @@ module _ (leads : Target → Id → Bool) (space : Space) where
     HoldsContents unit_contents c = c ≡ unit_at
     HoldsContents (newtype_contents e) c = (j : Id) × (c ≡ newtype_at j) × Holds e j
     HoldsContents (tuple_contents es) c = (js : List Id) × (c ≡ tuple_at js) × HoldsEntries es js
-    HoldsContents (struct_contents fs) c = (gs : List FieldAt) × (c ≡ struct_at gs) × HoldsFields fs gs
+    HoldsContents (struct_contents fs) c = (gs : List FieldAt) × (c ≡ struct_at gs) × HoldsFields fs gs None
 
 -- a tree stays where it stands when entries are added
 abbrev pub TreesStay : Type 0

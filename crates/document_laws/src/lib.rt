@@ -1,0 +1,5 @@
+//! What holds of the conversion of each document that was read: each law is the contract of a function that does nothing.
+//! The statements stand in specs/.
+#![tactic(auto)]
+
+pub mod laws;
