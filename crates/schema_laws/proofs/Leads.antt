@@ -1,5 +1,5 @@
 -- Where the keywords of a schema that was read lead: to what stands there, read.
-use Rattle.std.proofs.Common.{◌≡◌, ℕ, List, [], ◌∷◌, Option, Some, None, option_map, Bool, true, false, ◌||◌, bytes_eq, true≢false, refl, sym, ap, ◌∙◌}
+use Rattle.std.proofs.Common.{◌≡◌, ℕ, List, Option, Some, None, option_map, Bool, true, false, bytes_eq, true≢false, refl, sym, ap, ◌∙◌}
 use Rattle.std.specs.Prelude.{is_some, unwrap_or, option_and_then, codes, if◌then◌else◌}
 use Rattle.schema_defs.specs.Location.{Step}
 use Rattle.schema_defs.specs.Schema as tree

@@ -11,3 +11,4 @@ pub mod ToldReferences
 pub mod Origins
 pub mod ReadFrom
 pub mod Wide
+pub mod Placed

@@ -26,7 +26,7 @@ use Rattle.schema_faults.specs.Keywords.{Row, keywords, is_known_at, is_schema}
 use Rattle.schema_faults.specs.Schemas as nodes
 use Rattle.schema_faults.specs.Schemas.{Node, Held, under, held, held_items, held_members, held_at, one_schema, nodes_in, nodes_at, nodes_of, inside, list_nodes, object_nodes, schema_nodes}
 use Rattle.schema_faults.proofs.Walk.{held_at-member}
-use Rattle.schema_laws.specs.ValueAt.{NamesDiffer, NamesOfItemsDiffer, MembersDiffer}
+use Rattle.distinct_names.specs.Names.{NamesDiffer, NamesOfItemsDiffer, MembersDiffer}
 use Rattle.schema_laws.specs.Laws.{IsReadThere, SchemasAreRead}
 use Rattle.schema_laws.proofs.Options.{IfThere, chosen, mapped, followed, flattened, taken2, turned, with_answer}
 use Rattle.schema_laws.proofs.Stand.{other_place, other_name, or_true}

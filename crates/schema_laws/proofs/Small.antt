@@ -7,7 +7,7 @@ use Rattle.std.specs.Cmp.Lexicographic.{slice_cmp}
 use Rattle.std.specs.declared.cmp.Ordering.TheVariants.{Less}
 use Rattle.json_value.specs.Value as value
 use Rattle.json_value.specs.Value.{Value, Items, Members, null, number, fraction, text, list, item, no_items, member, no_members, has_name, IsSmall, AllSmall, MembersSmall, IsBelowFirst}
-use Rattle.schema_laws.specs.ValueAt.{NamesDiffer, NamesOfItemsDiffer, MembersDiffer}
+use Rattle.distinct_names.specs.Names.{NamesDiffer, NamesOfItemsDiffer, MembersDiffer}
 use Rattle.schema_laws.specs.Laws.{SmallNamesDiffer}
 
 below_next : (j l : List ℕ) (ms : Members) → slice_cmp nat_cmp j l ≡ Less → IsBelowFirst l ms → IsBelowFirst j ms

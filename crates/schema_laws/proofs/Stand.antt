@@ -13,7 +13,8 @@ use Rattle.schema_faults.specs.declared.keyword.Holds.TheVariants.{Text, Anythin
 use Rattle.schema_faults.specs.Keywords.{Row, keywords, is_known_at, is_schema}
 use Rattle.schema_faults.specs.Schemas.{Node, under, held, held_items, held_members, held_at, one_schema, nodes_in, nodes_at, nodes_of, list_nodes, object_nodes, schema_nodes, schemas_of}
 use Rattle.schema_faults.proofs.Walk.{held_at-member}
-use Rattle.schema_laws.specs.ValueAt.{item_at, part_at, value_at, NamesDiffer, NamesOfItemsDiffer, MembersDiffer}
+use Rattle.distinct_names.specs.Names.{NamesDiffer, NamesOfItemsDiffer, MembersDiffer}
+use Rattle.schema_laws.specs.ValueAt.{item_at, part_at, value_at}
 use Rattle.schema_laws.specs.Laws.{SchemasStand}
 use Rattle.schema_laws.proofs.Options.{chosen}
 

@@ -13,7 +13,7 @@ use Rattle.schema_defs.proofs.Unknown.{keywords_are_members}
 use Rattle.schema_faults.specs.Schemas.{schemas_of}
 use Rattle.schema_faults.specs.Faults.{Place, Told, told_of, references_in, reference_texts, bad_reference_texts, bad_references, leads}
 use Rattle.schema_faults.proofs.Targets.{leads_to_targets}
-use Rattle.schema_laws.specs.ValueAt.{NamesDiffer}
+use Rattle.distinct_names.specs.Names.{NamesDiffer}
 use Rattle.schema_laws.specs.Laws.{EachReferenceLeads, RefersThere, ToldReferencesAreRead}
 use Rattle.schema_laws.proofs.Options.{IfThere}
 use Rattle.schema_laws.proofs.Leads.{Present, reference_present}

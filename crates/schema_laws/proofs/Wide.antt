@@ -5,7 +5,8 @@ use Rattle.json_value.specs.Value as value
 use Rattle.json_value.specs.Value.{Value, Items, Members, null, number, fraction, text, list, item, no_items, member, no_members}
 use Rattle.schema_defs.specs.Location.{Step, Location, place}
 use Rattle.schema_tree.specs.Numbers.{fits_i64, below, first_of, wide_place, wide_place_of_items, wide_place_of_members}
-use Rattle.schema_laws.specs.ValueAt.{part_at, value_at, NamesDiffer, NamesOfItemsDiffer, MembersDiffer}
+use Rattle.distinct_names.specs.Names.{NamesDiffer, NamesOfItemsDiffer, MembersDiffer}
+use Rattle.schema_laws.specs.ValueAt.{part_at, value_at}
 use Rattle.schema_laws.specs.WideNumbers.{IsWideThere, WideNumbersStand}
 use Rattle.schema_laws.proofs.Options.{IfThere}
 use Rattle.schema_laws.proofs.Stand.{Ends, first_item, later_items, Names, first_member, later_members}

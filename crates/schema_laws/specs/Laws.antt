@@ -9,7 +9,8 @@ use Rattle.schema_defs.specs.Admits.{target}
 use Rattle.schema_defs.specs.Children.{reference_of, schema_at}
 use Rattle.schema_faults.specs.Schemas.{Node, schemas_of}
 use Rattle.schema_faults.specs.Faults.{Place, Told, told_of, reference_places, bad_references}
-use Rattle.schema_laws.specs.ValueAt.{value_at, NamesDiffer}
+use Rattle.distinct_names.specs.Names.{NamesDiffer}
+use Rattle.schema_laws.specs.ValueAt.{value_at}
 
 -- each reference of the document leads to the root or to a definition
 abbrev pub EachReferenceLeads : Document → Type 0

@@ -3,7 +3,8 @@ use Rattle.std.specs.Prelude.{◌≡◌, ⊤, false, Some}
 use Rattle.json_value.specs.Value.{Value, number, fraction}
 use Rattle.schema_defs.specs.Location.{Location}
 use Rattle.schema_tree.specs.Numbers.{fits_i64, wide_place}
-use Rattle.schema_laws.specs.ValueAt.{value_at, NamesDiffer}
+use Rattle.distinct_names.specs.Names.{NamesDiffer}
+use Rattle.schema_laws.specs.ValueAt.{value_at}
 
 -- a number that is no i64
 abbrev pub IsWideNumber : Value → Type 0

@@ -3,6 +3,7 @@
 
 ghost use Rattle.schema_laws.specs.Laws.{LocationsAreRead, ReferencesAreResolved, ReferencesStand, SchemasAreRead, SchemasStand, SmallNamesDiffer, ToldPlacesStand, ToldReferencesAreRead};
 ghost use Rattle.schema_laws.specs.WideNumbers.{WideNumbersStand};
+ghost use Rattle.schema_laws.specs.FaultPlaces.{FaultsArePlaced, NumbersArePlaced};
 
 /// In a document that was read from a value without bad references, each reference leads to the root or to a definition.
 pub fn references_are_resolved()
@@ -47,4 +48,14 @@ pub fn wide_numbers_stand()
 /// The names of the members of a small value differ.
 pub fn names_of_small_values_differ()
     ensures { SmallNamesDiffer }
+{}
+
+/// The places that a fault of a document tells name values inside it, where no name stands twice.
+pub fn places_of_faults_stand()
+    ensures { FaultsArePlaced }
+{}
+
+/// The place that is told of a number that is no i64 lies inside the value of that number, where no name stands twice.
+pub fn places_of_numbers_stand()
+    ensures { NumbersArePlaced }
 {}

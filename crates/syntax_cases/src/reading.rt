@@ -1,4 +1,5 @@
 //! What the text of a case is read as.
+use crate::deep::deep_answer;
 use crate::show::{show_expr_path, show_lifetimes, show_path, show_predicates, show_ty};
 use crate::tokens::{PLACE, literal_value, printed, tokens_of};
 use rust_syntax::{
@@ -28,7 +29,7 @@ fn kind_name(kind: SyntaxKind) -> &'static str {
 }
 
 // The error's kind, and whether it stands elsewhere than at the literal.
-fn show_error(error: &SyntaxError, out: &mut String) -> Result<(), AllocError> {
+pub(crate) fn show_error(error: &SyntaxError, out: &mut String) -> Result<(), AllocError> {
     out.push_str("! ")?;
     out.push_str(kind_name(error.kind))?;
     if error.span != PLACE {
@@ -115,6 +116,9 @@ pub(crate) fn answer(alloc: Global, line: &str) -> Result<String, AllocError> {
     let Some((word, rest)) = line.split_once(' ') else {
         return String::from_str(alloc, "no case");
     };
+    if word == "deep" {
+        return deep_answer(alloc, rest);
+    }
     match literal_value(alloc, rest)? {
         Some(text) => read(alloc, word, text),
         None => String::from_str(alloc, "no literal"),

@@ -1,0 +1,4 @@
+pub mod Joined
+pub mod Written
+pub mod PrintedParts
+pub mod FromPrinted
