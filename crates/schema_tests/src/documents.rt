@@ -1,5 +1,5 @@
-//! Documents read, and what is looked up in them.
-use schema_tree::{Document, Location, Schema, value_validate};
+//! A document read, and what is looked up in it.
+use schema_tree::{Document, Location};
 use serde_json::Value;
 use std::alloc::{AllocError, Global};
 use std::test::Fail;
@@ -12,33 +12,6 @@ fn names_of(alloc: Global, document: &Document) -> Result<String, AllocError> {
         shown.push_str(" ")?;
     }
     Ok(shown)
-}
-
-fn is_false(schema: Option<&Schema>) -> bool {
-    match schema {
-        Some(Schema::Bool(flag)) => !*flag,
-        _ => false,
-    }
-}
-
-#[test]
-fn schemas_are_looked_up(rt: HostRuntime) -> Result<(), Fail> {
-    let text = r##"{"type":"object","properties":{"a":false},"definitions":{"a/b":false}}"##;
-    let value = Value::from_str(rt.alloc(), text)?;
-    let Ok(document) = Document::read(rt.alloc(), &value) else {
-        return Err(Fail::from("it is refused"));
-    };
-    let place = Location::root(rt.alloc()).child(rt.alloc(), "properties")?;
-    let property = place.child(rt.alloc(), "a")?;
-    assert!(rt; value_validate(document.root(), &value));
-    assert!(rt; is_false(document.schema_at(&property)));
-    assert!(rt; document.schema_at(&place).is_none());
-    assert!(rt; is_false(document.definition("a/b")));
-    assert!(rt; document.definition("a").is_none());
-    assert!(rt; is_false(document.target("#/$defs/a~1b")));
-    assert!(rt; document.target("#/definitions/a").is_none());
-    assert!(rt; document.parts().target("#").is_some());
-    Ok(())
 }
 
 // A document of several keywords, with an unknown one.

@@ -1,4 +1,4 @@
-//! Tests of schemas and documents that are no table of texts: each public call once, and large documents.
+//! Tests of schemas and documents that are no table: faults, copies, plain keywords, and what is large.
 #![tactic(auto)]
 
 #[cfg(test)]

@@ -1,27 +1,9 @@
-//! Documents that are read and looked at by location and by reference, and what is no document.
+//! The plain keywords of a document that is read.
 use schema_reading::document;
-use schema_types::{Document, InstanceType, Location, Schema, SchemaObject, Setting, Types};
+use schema_types::{Document, InstanceType, Schema, SchemaObject, Setting, Types};
 use serde_json::Value;
-use std::alloc::{AllocError, Global};
+use std::alloc::Global;
 use std::test::Fail;
-
-static WHOLE: &str = r##"{
-    "title": "root",
-    "allOf": [{"title": "all"}],
-    "anyOf": [{"title": "any"}],
-    "oneOf": [true, {"title": "one"}],
-    "not": {"title": "not"},
-    "if": 5,
-    "items": [{"title": "first"}, {"title": "second"}],
-    "additionalItems": {"title": "rest"},
-    "contains": {"title": "contained"},
-    "properties": {"p": {"title": "property", "items": {"title": "each"}}, "a": {}},
-    "patternProperties": {"^q": {"title": "pattern"}},
-    "additionalProperties": {"title": "other"},
-    "propertyNames": {"title": "names"},
-    "definitions": {"b": {"title": "older"}, "d": true},
-    "$defs": {"c": {"title": "newer"}, "a": false}
-}"##;
 
 static PLAIN: &str = r##"{
     "description": "text",
@@ -44,72 +26,6 @@ static PLAIN: &str = r##"{
 fn read(alloc: Global, text: &str) -> Result<Option<Document>, Fail> {
     let value = Value::from_str(alloc, text)?;
     Ok(document(alloc, &value, Setting::Strict)?)
-}
-
-// The place whose steps are the words of a text.
-fn place(alloc: Global, steps: &str) -> Result<Location, AllocError> {
-    let mut at = Location::root(alloc);
-    for step in steps.split_whitespace() {
-        at = at.child(alloc, step)?;
-    }
-    Ok(at)
-}
-
-fn title(found: Option<&Schema>) -> &str {
-    match found {
-        None => "nothing",
-        Some(Schema::Bool(_)) => "boolean",
-        Some(Schema::Object(object)) => match &object.title {
-            None => "untitled",
-            Some(title) => title.as_str(),
-        },
-    }
-}
-
-#[test]
-fn schemas_stand_where_they_are_written(rt: HostRuntime) -> Result<(), Fail> {
-    let document = read(rt.alloc(), WHOLE)?.ok_or("not read")?;
-    for (steps, want) in [
-        ("", "root"),
-        ("allOf 0", "all"),
-        ("anyOf 0", "any"),
-        ("oneOf 0", "boolean"),
-        ("oneOf 1", "one"),
-        ("oneOf 2", "nothing"),
-        ("not", "not"),
-        ("if", "nothing"),
-        ("items 0", "first"),
-        ("items 1", "second"),
-        ("additionalItems", "rest"),
-        ("contains", "contained"),
-        ("properties p", "property"),
-        ("properties p items", "each"),
-        ("properties a", "untitled"),
-        ("patternProperties ^q", "pattern"),
-        ("additionalProperties", "other"),
-        ("propertyNames", "names"),
-        ("definitions b", "older"),
-        ("definitions c", "nothing"),
-        ("$defs c", "newer"),
-        ("$defs d", "nothing"),
-    ] {
-        let at = place(rt.alloc(), steps)?;
-        assert_eq!(rt; title(document.schema_at(&at)), want, "at {steps}");
-    }
-    for (reference, want) in [
-        ("#", "root"),
-        ("#/definitions/c", "newer"),
-        ("#/$defs/b", "older"),
-        ("#/$defs/d", "boolean"),
-        ("#/definitions/p", "nothing"),
-    ] {
-        assert_eq!(rt; title(document.target(reference)), want, "of {reference}");
-    }
-    let mut names = document.names();
-    for want in [Some("a"), Some("b"), Some("c"), Some("d"), None] {
-        assert_eq!(rt; names.next(), want);
-    }
-    Ok(())
 }
 
 fn object(schema: &Schema) -> Option<&SchemaObject> {

@@ -1,7 +1,7 @@
-//! Texts of locations and fault lines, names that are kept, the accepted form and refusals, and each public call once.
+//! The lines of faults, and the plain texts and tables with nothing in them.
 use schema_tree::{
-    Conversions, Fault, FlatKind, Format, InvalidKind, Location, PlainTexts, TextFault, Texts,
-    UnsupportedKind, Walk, holds_i64_alone, is_kept_name, json_string, read_form,
+    Conversions, Fault, Format, InvalidKind, Location, PlainTexts, TextFault, Texts,
+    UnsupportedKind, Walk, json_string,
 };
 use serde_json::Value;
 use std::alloc::{AllocError, Global};
@@ -23,24 +23,6 @@ fn walk(alloc: Global, first: &str, last: &str) -> Result<Walk, AllocError> {
     locations.push(place(alloc, first)?)?;
     locations.push(place(alloc, last)?)?;
     Ok(Walk { locations })
-}
-
-#[test]
-fn locations_have_texts(rt: HostRuntime) -> Result<(), Fail> {
-    for (row, want) in [
-        ("", "#"),
-        ("definitions A", "#/definitions/A"),
-        ("a/b m~n", "#/a~1b/m~0n"),
-        ("~1", "#/~01"),
-        ("~~// x", "#/~0~0~1~1/x"),
-        ("properties größe 0", "#/properties/größe/0"),
-    ] {
-        let location = place(rt.alloc(), row)?.try_clone(rt.alloc())?;
-        assert_eq!(rt; location.text(rt.alloc())?.as_str(), want);
-    }
-    let copy = walk(rt.alloc(), "", "a")?.try_clone(rt.alloc())?;
-    assert_eq!(rt; copy.locations.len(), 2);
-    Ok(())
 }
 
 // A fault of each name but `Memory`, at `a`.
@@ -118,132 +100,6 @@ fn faults_have_lines(rt: HostRuntime) -> Result<(), Fail> {
     Ok(())
 }
 
-#[test]
-fn names_are_kept(rt: HostRuntime) {
-    for name in ["a", "_a", "__", "größe", "Type", "i6", "self_"] {
-        assert!(rt; is_kept_name(name));
-    }
-    for name in [
-        "", "_", "Self", "self", "type", "yield", "i64", "str", "1a", "a b", "a-b", "ä!",
-    ] {
-        assert!(rt; !is_kept_name(name));
-    }
-}
-
-// The fields that the schema is read as, or `none`.
-fn fields_of(alloc: Global, schema: &Value) -> Result<String, AllocError> {
-    let Some(fields) = read_form(alloc, schema)? else {
-        return String::from_str(alloc, "none");
-    };
-    let mut shown = String::new(alloc);
-    for field in &fields {
-        shown.push_str(&field.name)?;
-        shown.push_str(match field.kind {
-            FlatKind::Text => ":text ",
-            FlatKind::Boolean => ":boolean ",
-            FlatKind::Integer => ":integer ",
-        })?;
-    }
-    Ok(shown)
-}
-
-// A schema with these keywords beside `additionalProperties`.
-fn closed(alloc: Global, rest: &str) -> Result<String, AllocError> {
-    format!(in alloc; "{{\"additionalProperties\":false,{rest}}}")
-}
-
-// Schemas, but for `additionalProperties`, and the fields that they are read as.
-static FORMS: [(&str, &str); 19] = [
-    (
-        r#""type":"object","properties":{"a":{"type":"string"}},"required":["a"]"#,
-        "a:text ",
-    ),
-    (
-        r#""type":"object","properties":{"b":{"type":"integer"},"a":{"type":"boolean"}},"required":["b","a"]"#,
-        "a:boolean b:integer ",
-    ),
-    (
-        r#""type":"array","properties":{"a":{"type":"string"}},"required":["a"]"#,
-        "none",
-    ),
-    (r#""type":"object","properties":{},"required":[]"#, "none"),
-    (
-        r#""type":"object","properties":{"a":{"type":"string"}},"required":["a"],"title":"T""#,
-        "none",
-    ),
-    (
-        r#""type":"object","properties":{"a":{"type":"string"}}"#,
-        "none",
-    ),
-    (
-        r#""type":"object","properties":{"type":{"type":"string"}},"required":["type"]"#,
-        "none",
-    ),
-    (
-        r#""type":"object","properties":{"_":{"type":"string"}},"required":["_"]"#,
-        "none",
-    ),
-    (
-        r#""type":"object","properties":{"Self":{"type":"string"}},"required":["Self"]"#,
-        "none",
-    ),
-    (
-        r#""type":"object","properties":{"i64":{"type":"string"}},"required":["i64"]"#,
-        "none",
-    ),
-    (
-        r#""type":"object","properties":{"a b":{"type":"string"}},"required":["a b"]"#,
-        "none",
-    ),
-    (
-        r#""type":"object","properties":{"a":{"type":"string"},"b":{"type":"string"}},"required":["a"]"#,
-        "none",
-    ),
-    (
-        r#""type":"object","properties":{"a":{"type":"string"},"b":{"type":"string"}},"required":["a","a"]"#,
-        "none",
-    ),
-    (
-        r#""type":"object","properties":{"a":{"type":"string"}},"required":["a","b"]"#,
-        "none",
-    ),
-    (
-        r#""type":"object","properties":{"a":{"type":"string"}},"required":["b"]"#,
-        "none",
-    ),
-    (
-        r#""type":"object","properties":{"a":{"type":"string"}},"required":[1]"#,
-        "none",
-    ),
-    (
-        r#""type":"object","properties":{"a":{"type":"object"}},"required":["a"]"#,
-        "none",
-    ),
-    (
-        r#""type":"object","properties":{"a":{"type":"number"}},"required":["a"]"#,
-        "none",
-    ),
-    (
-        r#""type":"object","properties":{"a":{"description":"d","type":"string"}},"required":["a"]"#,
-        "none",
-    ),
-];
-
-#[test]
-fn one_form_is_read(rt: HostRuntime) -> Result<(), Fail> {
-    for (rest, want) in FORMS {
-        let schema = Value::from_str(rt.alloc(), &closed(rt.alloc(), rest)?)?;
-        assert_eq!(rt; fields_of(rt.alloc(), &schema)?.as_str(), want, "at {rest}");
-    }
-    let open =
-        r#"{"additionalProperties":true,"type":"object","properties":{"a":{"type":"string"}},"required":["a"]}"#;
-    for text in [open, "true", "{}"] {
-        let schema = Value::from_str(rt.alloc(), text)?;
-        assert_eq!(rt; fields_of(rt.alloc(), &schema)?.as_str(), "none");
-    }
-    Ok(())
-}
-
 fn answers<T: Texts>(texts: &mut T) -> Result<[bool; 3], TextFault> {
     let pattern = texts.is_pattern("a")?;
     let matching = texts.has_pattern("a", "a")?;
@@ -260,21 +116,5 @@ fn plain_texts_know_formats_alone(rt: HostRuntime) -> Result<(), Fail> {
     assert_eq!(rt; answers(&mut texts)?, [false, false, true]);
     let table = Conversions::new(rt.alloc());
     assert!(rt; table.constraints.is_empty() && table.defaults.is_empty());
-    Ok(())
-}
-
-#[test]
-fn numbers_are_i64(rt: HostRuntime) -> Result<(), Fail> {
-    for (text, want) in [
-        ("null", true),
-        ("[-9223372036854775808,{\"a\":9223372036854775807}]", true),
-        ("9223372036854775808", false),
-        ("[\"1.5\",0]", true),
-        ("[1,1.0]", false),
-        ("{\"a\":{\"b\":[1e3]}}", false),
-    ] {
-        let value = Value::from_str(rt.alloc(), text)?;
-        assert_eq!(rt; holds_i64_alone(&value), want, "at {text}");
-    }
     Ok(())
 }

@@ -1,10 +1,8 @@
-//! Each public call once: places and walks, definitions, targets and locations of one document, copies, comparison, and values.
+//! Places and walks, and copies of a schema with parts of every kind, compared.
 use schema_types::{
-    ArrayValidation, Definition, Document, InstanceType, Items, Location, NumberValidation,
-    ObjectValidation, Schema, SchemaObject, Setting, StringValidation, Subschemas, Types, Walk,
-    value_validate,
+    ArrayValidation, Items, Location, NumberValidation, ObjectValidation, Schema, SchemaObject,
+    StringValidation, Subschemas, Walk,
 };
-use serde_json::Value;
 use std::alloc::{AllocError, Global};
 use std::collections::{BTreeMap, BTreeSet};
 use std::test::Fail;
@@ -130,30 +128,6 @@ fn root(alloc: Global) -> Result<Schema, AllocError> {
     Ok(Schema::Object(Box::new(alloc, object)?))
 }
 
-fn document(alloc: Global) -> Result<Document, AllocError> {
-    let mut definitions = BTreeMap::new(alloc);
-    for (name, under_defs) in [("x~1y", true), ("plain", false), ("a/b", false)] {
-        let definition = Definition {
-            under_defs,
-            schema: schema(alloc, name)?,
-        };
-        drop(definitions.insert(String::from_str(alloc, name)?, definition)?);
-    }
-    Ok(Document::new(Setting::Strict, root(alloc)?, definitions))
-}
-
-// The title of a schema that was found.
-fn title(found: Option<&Schema>) -> &str {
-    match found {
-        None => "nothing",
-        Some(Schema::Bool(_)) => "boolean",
-        Some(Schema::Object(object)) => match &object.title {
-            None => "untitled",
-            Some(title) => title.as_str(),
-        },
-    }
-}
-
 #[test]
 fn places_and_walks(rt: HostRuntime) -> Result<(), Fail> {
     let at = place(rt.alloc(), "properties a/b~c")?;
@@ -170,71 +144,6 @@ fn places_and_walks(rt: HostRuntime) -> Result<(), Fail> {
 }
 
 #[test]
-fn schemas_stand_at_locations(rt: HostRuntime) -> Result<(), Fail> {
-    let document = document(rt.alloc())?;
-    assert_eq!(rt; title(Some(document.root())), "root");
-    for (steps, want) in [
-        ("", "root"),
-        ("allOf", "nothing"),
-        ("allOf 0", "all"),
-        ("allOf 1", "boolean"),
-        ("allOf 2", "nothing"),
-        ("allOf 00", "nothing"),
-        ("allOf +0", "nothing"),
-        ("anyOf 0", "any"),
-        ("oneOf 0", "one"),
-        ("not", "not"),
-        ("items 0", "item"),
-        ("additionalItems", "rest of the items"),
-        ("contains", "contained"),
-        ("properties a/b", "property"),
-        ("properties b", "nothing"),
-        ("patternProperties ^a", "by pattern"),
-        ("additionalProperties", "other property"),
-        ("propertyNames", "name"),
-        ("definitions", "nothing"),
-        ("definitions a/b", "a/b"),
-        ("definitions a~1b", "nothing"),
-        ("definitions a/b allOf 0", "nothing"),
-        ("$defs a/b", "nothing"),
-        ("$defs x~1y", "x~1y"),
-        ("title", "nothing"),
-    ] {
-        let at = place(rt.alloc(), steps)?;
-        assert_eq!(rt; title(document.schema_at(&at)), want, "at {steps}");
-    }
-    Ok(())
-}
-
-#[test]
-fn references_have_targets(rt: HostRuntime) -> Result<(), Fail> {
-    let document = document(rt.alloc())?;
-    assert_eq!(rt; title(document.definition("a/b")), "a/b");
-    assert_eq!(rt; title(document.definition("a~1b")), "nothing");
-    for (reference, want) in [
-        ("#", "root"),
-        ("", "nothing"),
-        ("#/definitions/plain", "plain"),
-        ("#/$defs/plain", "plain"),
-        ("#/definitions/a~1b", "a/b"),
-        ("#/definitions/a/b", "a/b"),
-        ("#/definitions/x~01y", "x~1y"),
-        ("#/definitions/x~1y", "nothing"),
-        ("#/definitions/", "nothing"),
-        ("#/definitions", "nothing"),
-        ("#/properties/a~1b", "nothing"),
-        ("plain", "nothing"),
-    ] {
-        assert_eq!(rt; title(document.target(reference)), want, "of {reference}");
-    }
-    let mut names = document.names();
-    for want in [Some("a/b"), Some("plain"), Some("x~1y"), None, None] {
-        assert_eq!(rt; names.next(), want);
-    }
-    Ok(())
-}
-
-#[test]
 fn copies_are_the_same(rt: HostRuntime) -> Result<(), Fail> {
     let original = root(rt.alloc())?;
     let mut copy = original.try_clone(rt.alloc())?;
@@ -247,39 +156,5 @@ fn copies_are_the_same(rt: HostRuntime) -> Result<(), Fail> {
         object.title = None;
     }
     assert!(rt; !original.same(&copy), "titles are compared");
-    Ok(())
-}
-
-#[test]
-fn values_are_validated(rt: HostRuntime) -> Result<(), Fail> {
-    let mut object = titled(rt.alloc(), "shallow")?;
-    let mut kinds = Vec::new(rt.alloc());
-    kinds.push(InstanceType::Integer)?;
-    kinds.push(InstanceType::Object)?;
-    object.types = Some(Types::Many(kinds));
-    let mut values = Vec::new(rt.alloc());
-    for text in ["1", "2", "{}", "null"] {
-        values.push(Value::from_str(rt.alloc(), text)?)?;
-    }
-    object.enum_values = Some(values);
-    let listed = Schema::Object(Box::new(rt.alloc(), object)?);
-    let mut object = titled(rt.alloc(), "constant")?;
-    object.types = Some(Types::One(InstanceType::Number));
-    object.const_value = Some(Value::from_str(rt.alloc(), "2")?);
-    let constant = Schema::Object(Box::new(rt.alloc(), object)?);
-    for (text, in_list, is_constant) in [
-        ("1", true, false),
-        ("2", true, true),
-        ("3", false, false),
-        ("{}", true, false),
-        ("null", false, false),
-        ("[]", false, false),
-    ] {
-        let value = Value::from_str(rt.alloc(), text)?;
-        assert_eq!(rt; value_validate(&listed, &value), in_list, "{text}");
-        assert_eq!(rt; value_validate(&constant, &value), is_constant, "{text}");
-        assert!(rt; value_validate(&Schema::Bool(true), &value));
-        assert!(rt; !value_validate(&Schema::Bool(false), &value));
-    }
     Ok(())
 }
