@@ -11,7 +11,7 @@ use Rattle.entry_defs.specs.Entry.{u8, u32, i64, nonzero_u8, definition, State, 
 use Rattle.entry_defs.specs.Table.{TargetEntry, Table, root_of, items_of}
 use Rattle.convert_defs.specs.Convert.{table_of}
 use Rattle.naming_defs.specs.Names.{named_table, is_among}
-use Rattle.convert_defs.specs.Worked.{constant_text, tag_alone, row_1, row_2c, row_3, row_4, row_a, row_5, row_6a, row_8, row_9, row_b, row_11, row_14, row_16b, row_18, row_22a, row_22b, row_c}
+use Rattle.convert_defs.specs.Worked.{constant_text, tag_alone, closed_object_schema, set_schema, no_members_schema, optional_text_schema, rest_schema, nullable_schema, pair_schema, nonzero_schema, greatest_schema, ruled_text_schema, external_schema, internal_schema, recursive_schema, renamed_schema, null_alone_schema, never_schema, stated_default_schema}
 
 -- letters, digits and `_`, no digit first, and no word of Rust's own that the examples hold
 abbrev pub is_start : ℕ → Bool
@@ -91,32 +91,32 @@ pub record SharedEntries : Type 0 where
 pub record WorkedEntries : Type 0 where
   pub constant : root_named constant_text ≡ Some (the "Root" (enum_shape false external_tag (variant "a" unit_contents no_variants)))
   pub adjacent : root_named tag_alone ≡ Some (the "Root" (enum_shape false (adjacent_tag (codes "t") (codes "c")) (variant "x" (newtype_contents whole) (variant "y" unit_contents no_variants))))
-  pub closed_object : root_named row_1 ≡ Some (the "Root" (struct_shape true (field "id" whole required (field "name" text_entry required no_fields))))
-  pub set : root_named row_2c ≡ Some (set_entry whole)
-  pub no_members : root_named row_3 ≡ Some (the "Root" (struct_shape true no_fields))
-  pub optional_text : root_named row_4 ≡ Some (the "Root" (struct_shape false (field "s" text_entry optional no_fields)))
-  pub a_rest : root_named row_a ≡ Some (the "Root" (struct_shape false (field "a" boolean_entry optional (rest_field (codes "extra") whole))))
-  pub nullable : root_named row_5 ≡ Some (the "Root" (struct_shape false (field "s" (option_entry text_entry) required no_fields)))
-  pub pair_of_integers : root_named row_6a ≡ Some (tuple_entry (entries (whole ∷ integer_entry u8 ∷ [])))
-  pub nonzero : root_named row_8 ≡ Some (integer_entry nonzero_u8)
-  pub by_greatest : root_named row_9 ≡ Some (integer_entry u8)
-  pub ruled_text : root_named row_b ≡ Some (the "Root" (newtype_shape text_entry (Some (text_rule (record { least = None; most = Some 1; all = codes "a" ∷ []; any = [] })))))
-  pub external : root_named row_11 ≡ Some (the "Root" (enum_shape true external_tag
+  pub closed_object : root_named closed_object_schema ≡ Some (the "Root" (struct_shape true (field "id" whole required (field "name" text_entry required no_fields))))
+  pub set : root_named set_schema ≡ Some (set_entry whole)
+  pub no_members : root_named no_members_schema ≡ Some (the "Root" (struct_shape true no_fields))
+  pub optional_text : root_named optional_text_schema ≡ Some (the "Root" (struct_shape false (field "s" text_entry optional no_fields)))
+  pub a_rest : root_named rest_schema ≡ Some (the "Root" (struct_shape false (field "a" boolean_entry optional (rest_field (codes "extra") whole))))
+  pub nullable : root_named nullable_schema ≡ Some (the "Root" (struct_shape false (field "s" (option_entry text_entry) required no_fields)))
+  pub pair_of_integers : root_named pair_schema ≡ Some (tuple_entry (entries (whole ∷ integer_entry u8 ∷ [])))
+  pub nonzero : root_named nonzero_schema ≡ Some (integer_entry nonzero_u8)
+  pub by_greatest : root_named greatest_schema ≡ Some (integer_entry u8)
+  pub ruled_text : root_named ruled_text_schema ≡ Some (the "Root" (newtype_shape text_entry (Some (text_rule (record { least = None; most = Some 1; all = codes "a" ∷ []; any = [] })))))
+  pub external : root_named external_schema ≡ Some (the "Root" (enum_shape true external_tag
       (variant "Alpha" unit_contents
       (variant "Bravo" (struct_contents (field "beeBee" text_entry required (field "fooFoo" text_entry required no_fields)))
       (variant "Charlie" (newtype_contents (vec_entry word))
       (variant "Delta" (tuple_contents (entries (word ∷ text_entry ∷ [])))
       (variant "Echo" (tuple_contents (entries (option_entry text_entry ∷ text_entry ∷ text_entry ∷ []))) no_variants)))))))
-  pub internal : root_named row_14 ≡ Some (the "Root" (enum_shape true (internal_tag (codes "k")) (variant "a" unit_contents (variant "b" unit_contents no_variants))))
-  pub a_reference : root_named row_16b ≡ Some (reference (definition (codes "A")))
-  pub recursive : targets_named row_16b ≡ Some (defined "A" "A" (struct_shape false (field "next" (reference (definition (codes "A"))) optional no_fields)) ∷ [])
-  pub renamed : root_named row_18 ≡ Some (the "Root" (struct_shape false
+  pub internal : root_named internal_schema ≡ Some (the "Root" (enum_shape true (internal_tag (codes "k")) (variant "a" unit_contents (variant "b" unit_contents no_variants))))
+  pub a_reference : root_named recursive_schema ≡ Some (reference (definition (codes "A")))
+  pub recursive : targets_named recursive_schema ≡ Some (defined "A" "A" (struct_shape false (field "next" (reference (definition (codes "A"))) optional no_fields)) ∷ [])
+  pub renamed : root_named renamed_schema ≡ Some (the "Root" (struct_shape false
       (field_then (codes "field0") (codes "a b") (reference (definition (codes "X"))) required
       (field_then (codes "field1") (codes "type") (reference (definition (codes "i64"))) required no_fields))))
-  pub named_first : targets_named row_18 ≡ Some (
+  pub named_first : targets_named renamed_schema ≡ Some (
       defined "PhantomData" "PhantomData" (newtype_shape text_entry None)
       ∷ defined "X" "X" (newtype_shape (reference (definition (codes "PhantomData"))) None)
       ∷ defined "i64" "Type0" (newtype_shape whole None) ∷ [])
-  pub null_alone : root_named row_22a ≡ Some unit_entry
-  pub never : root_named row_22b ≡ Some (the "EmptyAnyOf" (enum_shape false external_tag no_variants))
-  pub stated_default : root_named row_c ≡ Some (the "Root" (struct_shape false (field "n" whole (stated (num 7)) (field "t" (vec_entry text_entry) optional no_fields))))
+  pub null_alone : root_named null_alone_schema ≡ Some unit_entry
+  pub never : root_named never_schema ≡ Some (the "EmptyAnyOf" (enum_shape false external_tag no_variants))
+  pub stated_default : root_named stated_default_schema ≡ Some (the "Root" (struct_shape false (field "n" whole (stated (num 7)) (field "t" (vec_entry text_entry) optional no_fields))))
