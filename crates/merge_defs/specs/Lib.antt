@@ -1,0 +1,10 @@
+pub mod Outcome
+pub mod Alike
+pub mod Leaves
+pub mod Arrays
+pub mod Objects
+pub mod Members
+pub mod Less
+pub mod Merge
+pub mod Samples
+pub mod Examples

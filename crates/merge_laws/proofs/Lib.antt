@@ -1,0 +1,17 @@
+pub mod Steps
+pub mod Leaves
+pub mod Sizes
+pub mod Objects
+pub mod Arrays
+pub mod Members
+pub mod Facts
+pub mod Whole
+pub mod Less
+pub mod Main
+pub mod Sorts
+pub mod Likeness
+pub mod MembersAt
+pub mod Numbers
+pub mod Theorem
+pub mod Lcm
+pub mod OneName

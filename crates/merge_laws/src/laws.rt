@@ -1,0 +1,14 @@
+//! What a merge admits where null does not stand for an absent member: each law is the contract of a function that does nothing.
+
+ghost use Rattle.merge_laws.specs.Laws.{MergesAreMeets, NeverIsEmpty};
+
+/// Without a Narrowed note a value that both sides admit is admitted by the merge, and without a Widened note one that the merge admits by both;
+/// where the merge is never without a Narrowed note there is none. In what is left of a schema the other side counts as refused.
+pub fn merges_are_meets()
+    ensures { MergesAreMeets }
+{}
+
+/// A merge that is never, without a Narrowed note, has no value that all its members admit.
+pub fn never_is_empty()
+    ensures { NeverIsEmpty }
+{}
