@@ -1,0 +1,13 @@
+pub mod Metas
+pub mod Acts
+pub mod Steps
+pub mod Texts
+pub mod Halves
+pub mod Owners
+pub mod Borrows
+pub mod Rows
+pub mod Looks
+pub mod Container
+pub mod Members
+pub mod Renames
+pub mod Examples

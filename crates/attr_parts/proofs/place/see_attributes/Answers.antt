@@ -1,0 +1,10 @@
+use Rattle.std.proofs.Common.{refl}
+use Rattle.syntax_trees.specs.Item.{attribute_view}
+use Rattle.attr_parts.specs.Places.{meta_spans, metas_spans}
+use Rattle.attr_parts.proofs.Reached.{next_reached}
+use Rattle.attr_parts.proofs.place.see_attributes.Goals as goal
+
+pub loop-item-preserved : goal.loop-item-preserved
+loop-item-preserved c =
+    let l = c.loop-item in
+    next_reached attribute_view metas_spans meta_spans (λ y ys. refl) l.reach _ _ c.args.from.now l.item-index c.item-item.result c.loop-item-test.true c.item-item.is c.see_attribute-reach.ensures l.invariant

@@ -1,0 +1,10 @@
+pub mod Diagnostics
+pub mod Rules
+pub mod Values
+pub mod Names
+pub mod Texts
+pub mod Types
+pub mod TypeViews
+pub mod Lifetimes
+pub mod Places
+pub mod Laws

@@ -1,0 +1,13 @@
+pub mod Container
+pub mod Reading
+pub mod Checks
+pub mod Model
+pub mod Reader
+pub mod Forms
+pub mod Written
+pub mod Told
+pub mod CheckExamples
+pub mod ModelExamples
+pub mod ReaderExamples
+pub mod FormExamples
+pub mod Laws
