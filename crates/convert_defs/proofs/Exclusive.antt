@@ -26,7 +26,7 @@ use Rattle.enum_defs.specs.Kinds.{has_kind, kinds_at, kinds_referred, kinds, nul
 use Rattle.enum_defs.proofs.KindsKept.{disjoint-apart}
 use Rattle.convert_defs.proofs.Bare.{and_left, and_right, impossible, none-some}
 use Rattle.convert_defs.proofs.Views.{View, of_null, of_boolean, of_number, of_text, of_list, of_object}
-use Rattle.convert_defs.proofs.Options.{says}
+use Rattle.enum_defs.proofs.Says.{says}
 use Rattle.convert_defs.proofs.Constants.{text-only}
 use Rattle.convert_defs.proofs.KindsKept.{further, has-kinds, null-has}
 use Rattle.convert_defs.proofs.ObjectShapes.{shape_member, shape_judge, shape-judged, found, given-name, passed-required}

@@ -29,7 +29,7 @@ use Rattle.convert_defs.proofs.Views.{View, AllParts}
 use Rattle.convert_defs.proofs.Bare.{and_left, and_right, same_bools, impossible, none-agrees, same-agrees, four, three, swapped}
 use Rattle.convert_defs.proofs.Scalars.{never-takes}
 use Rattle.convert_defs.proofs.Rows.{unlabeled, IsSound, Holds, IsClean, kind-quiet, parts-quiet}
-use Rattle.convert_defs.proofs.Options.{says}
+use Rattle.enum_defs.proofs.Says.{says}
 use Rattle.convert_defs.proofs.Untagged.{any-untagged}
 use Rattle.convert_defs.specs.Apart.{all_apart, branches_apart}
 use Rattle.convert_defs.proofs.External.{external-holds}
