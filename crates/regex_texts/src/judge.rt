@@ -1,5 +1,5 @@
 //! The judge that searches with `regex`.
-ghost use Rattle.std.specs.Prelude.{◌≡◌, ◌≢◌, ℕ, ◌≤◌, List, Some, true, is_some, IfOk, IsErrOf, option_copied};
+ghost use Rattle.std.specs.Prelude.{◌≡◌, ◌≢◌, ℕ, ◌≤◌, List, Some, true, is_some, IfOk, OnOk, IsErrOf, option_copied};
 ghost use Rattle.std.specs.BTreeMap.{get_by_text};
 ghost use Rattle.run_io.specs.Bytes.{Rises};
 ghost use Rattle.plain_patterns.specs.Plain.{is_plain};
@@ -47,6 +47,8 @@ impl RegexTexts {
         ensures refused { IsErrOf result TextFault.Failed → IsRefused pattern.now }
         ensures failed { IsErrOf result TextFault.Failed → Rises self.old.faults self.new.faults }
         ensures counts { self.old.faults ≤ self.new.faults }
+        ensures quiet { OnOk result (self.new.faults ≡ self.old.faults) }
+        ensures memory { IsErrOf result TextFault.Memory → self.new.faults ≡ self.old.faults }
     {
         if self.compiled.contains_key(pattern) {
             return Ok(true);
@@ -67,6 +69,7 @@ impl RegexTexts {
         ensures other_cause { result ≡ TextFault.Failed → error ≢ Error.OutOfMemory }
         ensures failed { result ≡ TextFault.Failed → Rises self.old.faults self.new.faults }
         ensures counts { self.old.faults ≤ self.new.faults }
+        ensures memory { result ≡ TextFault.Memory → self.new.faults ≡ self.old.faults }
     {
         match error {
             Error::OutOfMemory => TextFault::Memory,
@@ -104,6 +107,8 @@ impl Texts for RegexTexts {
         ensures refused { IsErrOf result TextFault.Failed → IsRefused pattern.now }
         ensures failed { IsErrOf result TextFault.Failed → Rises self.old.faults self.new.faults }
         ensures counts { self.old.faults ≤ self.new.faults }
+        ensures quiet { OnOk result (self.new.faults ≡ self.old.faults) }
+        ensures memory { IsErrOf result TextFault.Memory → self.new.faults ≡ self.old.faults }
     {
         self.prepare(pattern)
     }
@@ -113,6 +118,8 @@ impl Texts for RegexTexts {
         ensures refused { IsErrOf result TextFault.Failed → IsRefused pattern.now }
         ensures failed { IsErrOf result TextFault.Failed → Rises self.old.faults self.new.faults }
         ensures counts { self.old.faults ≤ self.new.faults }
+        ensures quiet { OnOk result (self.new.faults ≡ self.old.faults) }
+        ensures memory { IsErrOf result TextFault.Memory → self.new.faults ≡ self.old.faults }
     {
         self.prepare(pattern)?;
         match self.compiled.get(pattern) {

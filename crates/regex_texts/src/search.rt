@@ -12,6 +12,7 @@ use std::alloc::{AllocError, Global};
 pub fn compile(alloc: Global, source: &str) -> Result<Regex, Error>
     ensures searches { IfOk result (λ regex. (pattern : _) → rewritten pattern ≡ Some source.now → Searches pattern regex) }
     ensures refused { IfErr result (IsDefaultFailure source.now) }
+    ensures no_internal { IfErr result (λ e. e ≢ Error.Internal) }
 {
     let regex = Regex::new(alloc, source)?;
     Ok(regex)

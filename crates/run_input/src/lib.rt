@@ -1,7 +1,7 @@
 //! The input of a run: one JSON object with exactly the members `schema` and `values`.
 #![tactic(auto)]
 
-ghost use Rattle.std.specs.Prelude.{◌≡◌, IfOk, IfErr, Some, IsUtf8, option_map};
+ghost use Rattle.std.specs.Prelude.{◌≡◌, IfOk, IfErr, Some, None, IsUtf8, option_map};
 ghost use Rattle.serde_json.specs.Read.{read as read_text};
 ghost use Rattle.serde_json.specs.View.{view, items_view};
 ghost use Rattle.whole_numbers.specs.Whole.{whole};
@@ -33,6 +33,7 @@ pub enum InputError {
 /// The JSON value of bytes, in which each number that is whole is first written as an integer: `1.0` is 1.
 pub fn input_value(alloc: Global, bytes: &[u8]) -> Result<Value, InputError>
     ensures value { IfOk result (λ v. IsUtf8 (whole bytes.now) × (read_text (whole bytes.now) ≡ Some (view v))) }
+    ensures not_json { IfErr result (λ e. e ≡ InputError.NotJson → IsUtf8 (whole bytes.now) → read_text (whole bytes.now) ≡ None) }
     ensures no_input { IfErr result (λ e. e ≡ InputError.NotJson → IsNoInput bytes.now) }
 {
     let Ok(rewritten) = whole_numbers(alloc, bytes) else {

@@ -1,7 +1,7 @@
 use Rattle.std.proofs.Common.{◌≡◌, ◌∙◌, sym, ap, Some, string_bytes}
 use Rattle.std.specs.BTreeMap.{get_by_text}
 use Rattle.plain_patterns.specs.Plain.{rewritten}
-use Rattle.schema_texts.specs.declared.judge.TextFault.TheVariants.{Failed}
+use Rattle.schema_texts.specs.declared.judge.TextFault.TheVariants.{Failed, Memory}
 use Rattle.regex_texts.proofs.Kept.{kept_plain}
 use Rattle.regex_texts.proofs.judge.RegexTexts.prepare.Goals as goal
 
@@ -22,8 +22,11 @@ returns c =
             c.in-Err-compile.error,
             sym written ∙ ap Some (sym c.deref.ensures),
             c.fault.ensures.other_cause failed,
+            c.in-Err-compile.ensures.no_internal,
             c.in-Err-compile.ensures.refused,
           );
       failed = λ e. let failed : c.fault.result ≡ Failed = cc in c.fault.ensures.failed failed;
       counts = c.fault.ensures.counts;
+      quiet = tt;
+      memory = λ e. let failed : c.fault.result ≡ Memory = cc in c.fault.ensures.memory failed;
     }
