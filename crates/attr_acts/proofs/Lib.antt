@@ -1,0 +1,9 @@
+pub mod Pieces
+pub mod Places
+pub mod Firsts
+pub mod Weights
+pub mod Does
+pub mod Trees
+pub mod HalfSteps
+pub mod Kept
+pub mod Loops

@@ -1,0 +1,5 @@
+pub mod Parts
+pub mod Views
+pub mod Does
+pub mod HalfViews
+pub mod Kept

@@ -1,0 +1,4 @@
+pub mod ContainerView
+pub mod MemberViews
+pub mod FieldView
+pub mod Alike
