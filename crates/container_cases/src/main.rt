@@ -1,0 +1,40 @@
+//! Cases of the reader of containers: each line of standard input tells a derive and an item, and a line is printed of what is
+//! told of the item, each diagnostic with its place, and, behind ` | `, of the container that it is read as.
+//!
+//! A line has two columns with ` | ` between them. The first is `ser` or `de`, for a derive, and behind it a renamer: `marks`
+//! puts `v_` before a variant's name and `f_` before a field's, and `zed` answers `z`. The second is the item as Rust writes it.
+//! In types and parameters no comma stands outside of groups.
+//!
+//! A place is the number of the first and of the last token, from 1, where both brackets of a group count. A container is
+//! printed as its name, its style and its fields, or its variants with theirs. Where names differ from what is written, those
+//! that are written and read follow behind `=`, with the other names that are read behind `+`. A star marks the field of a
+//! transparent struct. Fields that all of them hold are told once more in a row behind `all`, and `getter` says that one of
+//! them has a getter.
+#![tactic(auto)]
+
+mod header;
+mod item;
+mod meta;
+mod numbers;
+mod reading;
+mod show;
+
+use reading::answer;
+use std::process::ExitCode;
+
+fn main(rt: HostRuntime) -> ExitCode {
+    let alloc = rt.alloc();
+    for line in rt.lines(alloc) {
+        let Ok(line) = line else {
+            return ExitCode::from(4);
+        };
+        let printed = match answer(alloc, &line) {
+            Ok(text) => println!(rt; "{text}"),
+            Err(_) => println!(rt; "unreadable"),
+        };
+        if printed.is_err() {
+            return ExitCode::from(5);
+        }
+    }
+    ExitCode::SUCCESS
+}

@@ -1,0 +1,162 @@
+//! The reader is called, and what it answers is printed.
+ghost use Rattle.std.specs.Prelude.{◌≡◌, ◌++◌, codes, string_bytes, IfOk};
+
+use crate::item::item_of;
+use crate::meta::no_case;
+use crate::numbers::{Places, placed_trees};
+use crate::show::{show_container, show_place};
+use attr_parts::{Ctxt, Derive, RenameRule, Renamer};
+use container_readers::Container;
+use rust_syntax::{DeriveInput, ParseFault};
+use rust_tokens::{Ident, LexError, Span, TokenStream, lex};
+use std::alloc::{AllocError, Global};
+use std::fmt::Write;
+
+/// Puts `v_` before a variant's name and `f_` before a field's, whatever the rule.
+#[derive(Clone, Copy)]
+struct Marks;
+
+/// Answers `z`, whatever the rule and the name.
+#[derive(Clone, Copy)]
+struct Zed;
+
+fn marked(alloc: Global, mark: &str, name: &str) -> Result<String, AllocError>
+    ensures { IfOk result (λ s. string_bytes s ≡ mark.now ++ name.now) }
+{
+    let mut text = String::from_str(alloc, mark)?;
+    text.push_str(name)?;
+    Ok(text)
+}
+
+impl Renamer for Marks {
+    ghost variant_name = { λ r n. codes "v_" ++ n };
+
+    ghost field_name = { λ r n. codes "f_" ++ n };
+
+    fn apply_to_variant(
+        &self,
+        alloc: Global,
+        _rule: RenameRule,
+        name: &str,
+    ) -> Result<String, AllocError> {
+        marked(alloc, "v_", name)
+    }
+
+    fn apply_to_field(
+        &self,
+        alloc: Global,
+        _rule: RenameRule,
+        name: &str,
+    ) -> Result<String, AllocError> {
+        marked(alloc, "f_", name)
+    }
+}
+
+impl Renamer for Zed {
+    ghost variant_name = { λ r n. codes "z" };
+
+    ghost field_name = { λ r n. codes "z" };
+
+    fn apply_to_variant(
+        &self,
+        alloc: Global,
+        _rule: RenameRule,
+        _name: &str,
+    ) -> Result<String, AllocError> {
+        String::from_str(alloc, "z")
+    }
+
+    fn apply_to_field(
+        &self,
+        alloc: Global,
+        _rule: RenameRule,
+        _name: &str,
+    ) -> Result<String, AllocError> {
+        String::from_str(alloc, "z")
+    }
+}
+
+fn lexed(alloc: Global, text: &str) -> Result<TokenStream, ParseFault> {
+    match lex(alloc, text, Span::call_site()) {
+        Ok(stream) => Ok(stream),
+        Err(LexError::Memory) => Err(ParseFault::Memory),
+        Err(LexError::Bad { .. }) => Err(no_case()),
+    }
+}
+
+// What was collected, each with its place.
+fn told_of(alloc: Global, cx: Ctxt) -> Result<String, AllocError> {
+    let mut out = String::new(alloc);
+    match cx.check() {
+        Ok(()) => out.push_str("ok")?,
+        Err(diagnostics) => {
+            for diagnostic in &diagnostics {
+                if !out.is_empty() {
+                    out.push_str("; ")?;
+                }
+                write!(out, "{diagnostic}")?;
+                show_place(&mut out, diagnostic.span)?;
+            }
+        }
+    }
+    out.push_str(" | ")?;
+    Ok(out)
+}
+
+fn read<R: Renamer>(
+    alloc: Global,
+    item: &DeriveInput,
+    derive: Derive,
+    renamer: &R,
+) -> Result<String, AllocError> {
+    let private = Ident {
+        text: String::from_str(alloc, "private")?,
+        span: Span::call_site(),
+    };
+    let mut cx = Ctxt::new(alloc);
+    let read = Container::from_ast(alloc, &mut cx, item, derive, &private, renamer);
+    let mut line = told_of(alloc, cx)?;
+    match read? {
+        Some(container) => show_container(&mut line, &container)?,
+        None => line.push_str("none")?,
+    }
+    Ok(line)
+}
+
+fn read_by(
+    alloc: Global,
+    item: &DeriveInput,
+    derive: Derive,
+    renamer: &str,
+) -> Result<String, ParseFault> {
+    let line = match renamer {
+        "marks" => read(alloc, item, derive, &Marks)?,
+        "zed" => read(alloc, item, derive, &Zed)?,
+        _ => return Err(no_case()),
+    };
+    Ok(line)
+}
+
+fn derive_of(word: &str) -> Result<Derive, ParseFault> {
+    match word {
+        "ser" => Ok(Derive::Serialize),
+        "de" => Ok(Derive::Deserialize),
+        _ => Err(no_case()),
+    }
+}
+
+/// What is told of the item, and the container that it is read as.
+pub(crate) fn answer(alloc: Global, line: &str) -> Result<String, ParseFault> {
+    let Some((head, text)) = line.split_once(" | ") else {
+        return Err(no_case());
+    };
+    let Some((word, renamer)) = head.split_once(" ") else {
+        return Err(no_case());
+    };
+    let derive = derive_of(word)?;
+    let tokens = lexed(alloc, text)?;
+    let mut places = Places { last: 0 };
+    let placed = placed_trees(alloc, tokens.trees(), 9, &mut places)?;
+    let item = item_of(alloc, placed.trees())?;
+    read_by(alloc, &item, derive, renamer)
+}

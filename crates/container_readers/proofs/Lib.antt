@@ -1,0 +1,10 @@
+pub mod Loops
+pub mod Told
+pub mod ReadOn
+pub mod Tagged
+pub mod Rows
+pub mod Counted
+pub mod Made
+pub mod Ten
+pub mod CasesOf
+pub mod LastOf
