@@ -1,0 +1,3 @@
+pub mod KnownPaths
+pub mod Places
+pub mod Lists

@@ -1,0 +1,2 @@
+pub mod EnteredNames
+pub mod Knows

@@ -1,0 +1,10 @@
+pub mod Agree
+pub mod Good
+pub mod Parts
+pub mod Rows
+pub mod Fields
+pub mod Types
+pub mod Items
+pub mod Spare
+pub mod Values
+pub mod Levels

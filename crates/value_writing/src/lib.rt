@@ -1,0 +1,11 @@
+//! Typed values written as JSON values, by their types.
+#![tactic(auto)]
+
+mod copies;
+mod fields;
+mod members;
+mod shape;
+mod wrap;
+mod writing;
+
+pub use writing::write;
