@@ -266,7 +266,7 @@ module _ (r : Relations) (d : Document) (join less : Schema → Schema → Outco
     (at_boolean : (b : Bool) → J (boolean b) ≡ b)
     (disjoint : (s t : Schema) → is_disjoint (kinds d s) (kinds d t) ≡ true → J s ≡ true → J t ≡ true → ⊥)
     (form : (p : Plain) (ss : Same) (ls : Lists) (ns : Named) → J (object p ss ls ns) ≡ (((plain_agrees r p v && if_given (λ q. follow J (target d q)) p.reference) && parts_agree r v parts ls ns) && same_says J ss))
-    (one_name_meets : (p : Plain) (ss : Same) (ls : Lists) (ns : Named) (q : Plain) (tt' : Same) (ms : Lists) (os : Named) → IsProper (object p ss ls ns) → IsProper (object q tt' ms os) → one_name_alone p ns q tt' ms os ≡ true
+    (one_name_meets : (p : Plain) (ss : Same) (ls : Lists) (ns : Named) (q : Plain) (tt' : Same) (ms : Lists) (os : Named) → IsProper (object p ss ls ns) → IsProper (object q tt' ms os) → counts_as_absent d.setting null ≡ false → one_name_alone p ns q tt' ms os ≡ true
     → Meets IsProper (J (object p ss ls ns) && not (J (object q tt' ms os))) J (less_object d join less p ss ls ns q tt' ms os))
   where
     none : {A : Type 0} (o : Option A) → is_absent o ≡ true → o ≡ None
@@ -422,10 +422,14 @@ module _ (r : Relations) (d : Document) (join less : Schema → Schema → Outco
         → is_exact d join less p ns (object p ss ls ns) q tt' ms os (object q tt' ms os) ≡ true → Meets IsProper (J (object p ss ls ns) && not (J (object q tt' ms os))) J (less_object d join less p ss ls ns q tt' ms os)
     exact_meets p ss ls ns q tt' ms os hp hq = cases (values_alone p q tt' ms os) refl (not (counts_as_absent d.setting null) && one_name_alone p ns q tt' ms os) refl (kinds_apart d (object p ss ls ns) (object q tt' ms os) q tt' os) refl
       where
+        no : (b : Bool) → not b ≡ true → b ≡ false
+        no true h = no_no h
+        no false h = refl
+
         cases : (a : Bool) → values_alone p q tt' ms os ≡ a → (b : Bool) → (not (counts_as_absent d.setting null) && one_name_alone p ns q tt' ms os) ≡ b → (c : Bool) → kinds_apart d (object p ss ls ns) (object q tt' ms os) q tt' os ≡ c
             → (a || (b || (c || subschema_alone q tt' ms os))) ≡ true → Meets IsProper (J (object p ss ls ns) && not (J (object q tt' ms os))) J (less_object d join less p ss ls ns q tt' ms os)
         cases true e b f c g h = values_case p ss ls ns q tt' ms os hp e
-        cases false e true f c g h = one_name_meets p ss ls ns q tt' ms os hp hq (and-2 (not (counts_as_absent d.setting null)) _ f)
+        cases false e true f c g h = one_name_meets p ss ls ns q tt' ms os hp hq (no (counts_as_absent d.setting null) (and-1 (not (counts_as_absent d.setting null)) _ f)) (and-2 (not (counts_as_absent d.setting null)) _ f)
         cases false e false f true g h = kinds_case p ss ls ns q tt' ms os hp g
         cases false e false f false g h = subschema_case p ss ls ns q tt' ms os hp hq h
 

@@ -2,6 +2,7 @@ pub mod Steps
 pub mod Leaves
 pub mod Sizes
 pub mod Objects
+pub mod Absent
 pub mod Arrays
 pub mod Members
 pub mod Facts
@@ -15,3 +16,5 @@ pub mod Numbers
 pub mod Theorem
 pub mod Lcm
 pub mod OneName
+pub mod Growing
+pub mod Ending

@@ -5,9 +5,9 @@ use Rattle.std.specs.List.{list_any, list_all}
 use Rattle.std.proofs.lemmas.List.Sums.{sum_by-cons}
 use Rattle.std.proofs.lemmas.Slice.Eq.{bytes_eq-Decides}
 use Rattle.json_value.specs.Value as value
-use Rattle.json_value.specs.Value.{Value, Items, Members, null, number, fraction, text, list, item, no_items as end_items, member, no_members, item_count, member_count, has_name, is_whole, all_whole, members_whole}
+use Rattle.json_value.specs.Value.{Value, Items, Members, null, number, fraction, text, list, item, no_items as end_items, member, no_members, item_count, has_name, is_whole, all_whole, members_whole}
 use Rattle.schema_defs.specs.Texts.{Relations, IsLawful}
-use Rattle.schema_defs.specs.Schema.{Texts, Plain, Schema, object, Same, no_same, same_value, Lists, no_lists, Named, no_named, MaybeSchema, no_schema, the_schema, MaybeSchemas, no_list, the_list, schema_list, schemas, Definition, Document}
+use Rattle.schema_defs.specs.Schema.{Texts, Plain, Schema, boolean, object, Same, no_same, same_value, Lists, no_lists, Named, no_named, MaybeSchema, no_schema, the_schema, MaybeSchemas, no_list, the_list, schema_list, schemas, Definition, Document}
 use Rattle.schema_defs.specs.Layer.{Parts, if_given, plain_agrees, parts_agree, judge_same, judge_all_of, judge_any_of, judge_one_of, judge_not}
 use Rattle.schema_defs.specs.Admits.{admits, admits-level, admits_with, item_judges, member_parts, counts_as_absent, parts_of, allowed, target, follow, defined, defined_as, definition_name, is_root_reference}
 use Rattle.schema_defs.specs.Walks.{IsGuarded}
@@ -16,16 +16,18 @@ use Rattle.schema_defs.proofs.Unfold.{unfolds}
 use Rattle.schema_defs.proofs.Guarded.{spare_references_say_nothing}
 use Rattle.merge_defs.specs.Outcome.{Outcome}
 use Rattle.merge_defs.specs.Alike.{same_schemas, same_texts, wholly}
-use Rattle.schema_defs.specs.declared.Setting.TheVariants.{Strict}
+use Rattle.schema_defs.specs.declared.Setting.{Setting}
+use Rattle.schema_defs.specs.declared.Setting.TheVariants.{Strict, NullAbsent}
 use Rattle.enum_defs.specs.Kinds.{kinds}
 use Rattle.enum_defs.specs.Exclusive.{is_disjoint, are_apart}
-use Rattle.merge_defs.specs.Objects.{no_plain}
+use Rattle.merge_defs.specs.Objects.{no_plain, is_false, or_false}
 use Rattle.merge_defs.specs.Members.{only_same}
 use Rattle.merge_defs.specs.Less.{one_name_alone}
 use Rattle.merge_defs.specs.Merge.{with_subschemas_layer, join_layer, less_layer, less_object, below, reference_to, join, less}
 use Rattle.merge_laws.specs.Laws.{Meets, IsProper, ProperSame, ProperDocument, ProperDefinitions, MergesAdmitBoth}
-use Rattle.merge_laws.proofs.Steps.{meets-wanted, no_no, and-1, and-2, Always, Each, always-meets}
-use Rattle.merge_laws.proofs.Objects.{IsJudge, IsMember}
+use Rattle.merge_laws.proofs.Steps.{meets-wanted, no_no, and-1, and-2, Each}
+use Rattle.merge_laws.proofs.Objects.{IsFalse, IsJudge}
+use Rattle.merge_laws.proofs.Absent.{IsMember}
 use Rattle.merge_laws.proofs.Members.{JudgesSame, count, same_says, each_says, any_says, one_says, not_says}
 use Rattle.merge_laws.proofs.Facts.{item_judges_of, member_judges_of, Coherent}
 use Rattle.merge_laws.proofs.Whole.{NumbersMeet, join_layer_meets, with_subschemas_meet}
@@ -204,19 +206,37 @@ pub record Owed (r : Relations) (d : Document) : Type 0 where
   pub apart : (v : Value) (s t : Schema) → are_apart d s t ≡ true → admits r d v s ≡ true → admits r d v t ≡ true → ⊥
   pub disjoint : (v : Value) (s t : Schema) → is_disjoint (kinds d s) (kinds d t) ≡ true → admits r d v s ≡ true → admits r d v t ≡ true → ⊥
   pub one_name : (v : Value) (join less : Schema → Schema → Outcome Schema) (p : Plain) (ss : Same) (ls : Lists) (ns : Named) (q : Plain) (tt' : Same) (ms : Lists) (os : Named)
-      → IsProper (object p ss ls ns) → IsProper (object q tt' ms os) → one_name_alone p ns q tt' ms os ≡ true
+      → IsProper (object p ss ls ns) → IsProper (object q tt' ms os) → counts_as_absent d.setting null ≡ false → one_name_alone p ns q tt' ms os ≡ true
       → Meets IsProper (admits r d v (object p ss ls ns) && not (admits r d v (object q tt' ms os))) (admits r d v) (less_object d join less p ss ls ns q tt' ms os)
 
-module _ (r : Relations) (lawful : IsLawful r) (d : Document) (guarded : IsGuarded d) (strict : d.setting ≡ Strict) (proper : ProperDocument d) (owed : Owed r d) where
+module _ (r : Relations) (lawful : IsLawful r) (d : Document) (guarded : IsGuarded d) (proper : ProperDocument d) (owed : Owed r d) where
+  -- a merge with false is false
+  abbrev Closed : (Schema → Schema → Outcome Schema) → Type 0
+  Closed join = (a b : Schema) → (is_false a || is_false b) ≡ true → IsFalse (or_false join a b)
+
   -- at a value
   record Lawful (join less : Schema → Schema → Outcome Schema) (v : Value) : Type 0 where
     merges : (a b : Schema) → IsProper a → IsProper b → Meets IsProper (admits r d v a && admits r d v b) (admits r d v) (join a b)
     takes : (a b : Schema) → IsProper a → IsProper b → Meets IsProper (admits r d v a && not (admits r d v b)) (admits r d v) (less a b)
+    closes : Closed join
+
+  closed : (join less : Schema → Schema → Outcome Schema) → Closed (λ a b. join_layer d join less a b)
+  closed join less (boolean false) b h = refl
+  closed join less (boolean true) b h = h
+  closed join less (object p ss ls ns) (boolean false) h = refl
+  closed join less (object p ss ls ns) (boolean true) h = no_no h
+  closed join less (object p ss ls ns) (object q tt' ms os) h = no_no h
+
+  -- where null does not stand for an absent member, nothing does
+  present : (s : Setting) → counts_as_absent s null ≡ false → (v : Value) → counts_as_absent s v ≡ false
+  present Strict h v = refl
+  present NullAbsent h v = no_no (sym h)
 
   module _ (join' less' : Schema → Schema → Outcome Schema) (all : (v : Value) → is_whole v ≡ true → Lawful join' less' v) where
     judges : (v : Value) → is_whole v ≡ true → IsJudge join' (admits r d v)
     judges v w = record {
       merges = (all v w).merges;
+      closes = (all v w).closes;
       at_boolean = (unfolds r d).booleans v;
       of_two = λ s t. (same_judge r d guarded owed.whole_alike v).of_all (s ∷ t ∷ []) ∙ ap (λ b. admits r d v s && b) (and-true (admits r d v t));
       of_same = owed.all_alike v;
@@ -230,29 +250,29 @@ module _ (r : Relations) (lawful : IsLawful r) (d : Document) (guarded : IsGuard
     items_of (list xs) w = item_all xs w
     items_of _ w = tt
 
-    module _ (always : (a b : Schema) → IsProper a → IsProper b → Always IsProper (join' a b)) where
-      member_all : (ms : Members) → members_whole ms ≡ true → Each (IsMember join' always) (member_parts r d ms)
-      member_all no_members h = tt
-      member_all (member k v ms) h = ((judges v (and-1 (is_whole v) _ h), ap (λ s. counts_as_absent s v) strict), member_all ms (and-2 (is_whole v) _ h))
+    member_all : (ms : Members) → members_whole ms ≡ true → Each (IsMember join' (counts_as_absent d.setting null)) (member_parts r d ms)
+    member_all no_members h = tt
+    member_all (member k v ms) h = ((judges v (and-1 (is_whole v) _ h), λ e. present d.setting e v), member_all ms (and-2 (is_whole v) _ h))
 
-      members_of : (v : Value) → is_whole v ≡ true → Each (IsMember join' always) (member_judges_of v (parts_of r d v))
-      members_of (value.object ms) w = member_all ms w
-      members_of _ w = tt
+    members_of : (v : Value) → is_whole v ≡ true → Each (IsMember join' (counts_as_absent d.setting null)) (member_judges_of v (parts_of r d v))
+    members_of (value.object ms) w = member_all ms w
+    members_of _ w = tt
 
     with_layer : (v : Value) → is_whole v ≡ true → (b : Schema) (ss : Same) → IsProper b → ProperSame ss → Meets IsProper (admits r d v b && admits r d v (only_same ss)) (admits r d v) (with_subschemas_layer d join' less' b ss)
     with_layer v w b ss p q = meets-wanted IsProper (admits r d v b && same_says (admits r d v) ss) _ (admits r d v) (with_subschemas_layer d join' less' b ss) (ap (λ t. admits r d v b && t) (sym (only_form r d guarded v ss)))
         (with_subschemas_meet r lawful owed.numbers owed.texts d (proper_target r d guarded proper) join' less' v w (parts_of r d v) (coherent r d guarded v) (admits r d v) (judges v w) (all v w).takes
-        (items_of v w) (members_of (λ a b p q. always-meets IsProper (admits r d v a && admits r d v b) (admits r d v) (join' a b) ((judges v w).merges a b p q)) v w) (same_judge r d guarded owed.whole_alike v) (owed.apart v) (form r d guarded v) b ss p q)
+        (items_of v w) (members_of v w) (same_judge r d guarded owed.whole_alike v) (owed.apart v) (form r d guarded v) b ss p q)
 
     layer : (v : Value) → is_whole v ≡ true → Lawful (λ a b. join_layer d join' less' a b) (λ a b. less_layer d join' less' a b) v
     layer v w = record {
       merges = join_layer_meets r lawful owed.numbers owed.texts d (proper_target r d guarded proper) join' less' v w (parts_of r d v) (coherent r d guarded v) (admits r d v) (judges v w) (all v w).takes
-          (items_of v w) (members_of (λ a b p q. always-meets IsProper (admits r d v a && admits r d v b) (admits r d v) (join' a b) ((judges v w).merges a b p q)) v w) (same_judge r d guarded owed.whole_alike v) (owed.apart v) (form r d guarded v);
+          (items_of v w) (members_of v w) (same_judge r d guarded owed.whole_alike v) (owed.apart v) (form r d guarded v);
       takes = less_layer_meets r d join' less' v (parts_of r d v) (admits r d v) (all v w).merges (all v w).takes ((unfolds r d).booleans v) (owed.disjoint v) (form r d guarded v) (owed.one_name v join' less');
+      closes = closed join' less';
     }
 
   merger : (n : ℕ) (v : Value) → is_whole v ≡ true → Lawful (below d n).join (below d n).less v
-  merger zero v w = record { merges = λ a b p q. tt; takes = λ a b p q. tt }
+  merger zero v w = record { merges = λ a b p q. tt; takes = λ a b p q. tt; closes = λ a b h. tt }
   merger (suc n) v w = layer (below d n).join (below d n).less (merger n) v w
 
   pub merges_admit_both : (v : Value) → is_whole v ≡ true → MergesAdmitBoth r d v

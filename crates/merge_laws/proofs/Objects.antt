@@ -7,18 +7,24 @@ use Rattle.schema_defs.specs.Texts.{Relations}
 use Rattle.schema_defs.specs.Schema.{MemberRules, Schema, boolean, object, Named, no_named, named, MaybeSchema, no_schema, the_schema, Properties, no_properties, property}
 use Rattle.schema_defs.specs.Layer.{Judge, MemberPart, maybe, property_at, is_given, member_agrees}
 use Rattle.enum_defs.specs.Words.{is_name, names_of}
-use Rattle.merge_defs.specs.Outcome.{Outcome, fault, never, answer, Note, note_if, of_clash, of_names, noted, both_ways, and_then, mapped, or_else, never_unless}
+use Rattle.merge_defs.specs.Outcome.{Outcome, fault, never, answer, Note, of_clash, noted, and_then, mapped, or_else, never_unless}
 use Rattle.merge_defs.specs.Alike.{same_schemas}
 use Rattle.merge_defs.specs.Leaves.{sizes_cross}
-use Rattle.merge_defs.specs.Objects.{is_below, put_before, put_name, put_names, all_names, all_of_two, beside, is_false, no_rest, put_property, unsaid_at, absent_notes, or_false, two_rests, schema_of_both, properties_of, joined_members, two_member_rules, kept_named, kept_if, no_member_rules, two_named}
+use Rattle.merge_defs.specs.Objects.{is_below, put_before, put_name, put_names, all_names, all_of_two, beside, is_false, no_rest, put_property, unsaid_at, or_false, two_rests, schema_of_both, properties_of, joined_members, two_member_rules}
 use Rattle.merge_laws.specs.Laws.{Meets, IsProper, ProperMaybe, ProperProperties, ProperNamed}
-use Rattle.merge_laws.proofs.Steps.{no_no, yes_no, and-1, and-2, or-1, or-2, Always, IsSettled, Each, meets-exactly, meets-never, meets-said, meets-wanted, meets-noted, meets-all, meets-nothing, meets-or_else, settled-or_else, meets-in, meets-step, meets-then, meets-mapped, always-meets, meets-both_ways}
+use Rattle.merge_laws.proofs.Steps.{no_no, yes_no, and-1, and-2, or-1, or-2, Always, IsSettled, Each, meets-exactly, meets-never, meets-said, meets-wanted, meets-noted, meets-all, meets-nothing, meets-or_else, settled-or_else, meets-in, meets-step, meets-then, meets-mapped}
 use Rattle.merge_laws.proofs.Leaves.{same_bools, or-false}
 use Rattle.merge_laws.proofs.Sizes.{and-pairs}
 
--- a judge of schemas at one value, of which merges are known
+-- what is answered is false
+abbrev pub IsFalse : Outcome Schema → Type 0
+IsFalse (answer ns a) = is_false a ≡ true
+IsFalse _ = Unit {0}
+
+-- a judge of schemas at one value, of which merges are known; a merge with false is false
 pub record IsJudge (join : Schema → Schema → Outcome Schema) (j : Judge) : Type 0 where
   pub merges : (a b : Schema) → IsProper a → IsProper b → Meets IsProper (j a && j b) j (join a b)
+  pub closes : (a b : Schema) → (is_false a || is_false b) ≡ true → IsFalse (or_false join a b)
   pub at_boolean : (b : Bool) → j (boolean b) ≡ b
   pub of_two : (s t : Schema) → j (all_of_two s t) ≡ (j s && j t)
   pub of_same : (s t : Schema) → same_schemas s t ≡ true → j s ≡ j t
@@ -93,7 +99,7 @@ distinct_puts : (ns ms : List (List ℕ)) → AreDistinct ms → AreDistinct (pu
 distinct_puts [] ms d = d
 distinct_puts (n ∷ ns) ms d = distinct_put n (put_names ns ms) (distinct_puts ns ms d)
 
-distinct_all : (ns ms : List (List ℕ)) → AreDistinct (all_names ns ms)
+pub distinct_all : (ns ms : List (List ℕ)) → AreDistinct (all_names ns ms)
 distinct_all ns ms = distinct_puts ns (put_names ms []) (distinct_puts ms [] tt)
 
 pub names_given : (k : List ℕ) (ps : Properties) → is_name k (names_of ps) ≡ is_given (property_at k ps)
@@ -118,15 +124,15 @@ not_given (the_schema s) h = absurd (no_no (sym h))
 
 -- ---- booleans
 
-and-true : (b : Bool) → (b && true) ≡ b
+pub and-true : (b : Bool) → (b && true) ≡ b
 and-true true = refl
 and-true false = refl
 
-all-and : {M : Type 0} (f g : M → Bool) (ms : List M) → list_all (λ m. f m && g m) ms ≡ (list_all f ms && list_all g ms)
+pub all-and : {M : Type 0} (f g : M → Bool) (ms : List M) → list_all (λ m. f m && g m) ms ≡ (list_all f ms && list_all g ms)
 all-and f g [] = refl
 all-and f g (m ∷ ms) = ap (λ b. (f m && g m) && b) (all-and f g ms) ∙ and-pairs (f m) (g m) (list_all f ms) (list_all g ms)
 
-all-same : {M : Type 0} (Q : M → Type 0) (f g : M → Bool) → ((m : M) → Q m → f m ≡ g m) → (ms : List M) → Each Q ms → list_all f ms ≡ list_all g ms
+pub all-same : {M : Type 0} (Q : M → Type 0) (f g : M → Bool) → ((m : M) → Q m → f m ≡ g m) → (ms : List M) → Each Q ms → list_all f ms ≡ list_all g ms
 all-same Q f g h [] q = refl
 all-same Q f g h (m ∷ ms) q = λ i. h m q.0 i && all-same Q f g h ms q.1 i
 
@@ -193,9 +199,14 @@ abbrev pub named_say : List Member → Relations → (List ℕ → Judge) → (M
 named_say js r name rules_say no_named = true
 named_say js r name rules_say (named qs pp z xn d) = list_all (member_agrees r name qs pp z xn d.required) js && rules_say d
 
+-- the same without patterns, where no member stands for its absence
+abbrev pub strictly_say : List Member → (MemberRules → Bool) → Named → Bool
+strictly_say js rules_say no_named = true
+strictly_say js rules_say (named qs pp z xn d) = list_all (binds_member qs z) js && rules_say d
+
 module _ (join : Schema → Schema → Outcome Schema) (always : (a b : Schema) → IsProper a → IsProper b → Always IsProper (join a b)) where
-  abbrev pub IsMember : Member → Type 0
-  IsMember m = IsJudge join m.says × (m.as_absent ≡ false)
+  abbrev pub IsJudged : Member → Type 0
+  IsJudged m = IsJudge join m.says
 
   always_or_false : (s t : Schema) → IsProper s → IsProper t → Always IsProper (or_false join s t)
   always_or_false s t p q = go (join s t) (always s t p q)
@@ -244,7 +255,7 @@ module _ (join : Schema → Schema → Outcome Schema) (always : (a b : Schema) 
       go (answer ns a) h = tt
 
   module _ (ps : Properties) (x : MaybeSchema) (qs : Properties) (y : MaybeSchema) (pp : ProperProperties ps) (px : ProperMaybe x) (pq : ProperProperties qs) (py : ProperMaybe y)
-      (js : List Member) (each : Each IsMember js) (nulls : Bool) where
+      (js : List Member) (each : Each IsJudged js) (nulls : Bool) where
     abbrev Wanted : Member → Bool
     Wanted m = binds_member ps x m && binds_member qs y m
 
@@ -262,20 +273,20 @@ module _ (join : Schema → Schema → Outcome Schema) (always : (a b : Schema) 
     IsGivenName n = (is_given (property_at n ps) || is_given (property_at n qs)) ≡ true
 
     name_meets : (n : List ℕ) → IsGivenName n → Meets IsProper (AtName n Wanted) (λ s. AtName n (λ m. m.says s)) (schema_of_both join (property_at n ps) x (property_at n qs) y)
-    name_meets n g = meets-all IsProper IsMember (λ m. not (bytes_eq m.name n) || Wanted m) (λ m s. not (bytes_eq m.name n) || m.says s)
+    name_meets n g = meets-all IsProper IsJudged (λ m. not (bytes_eq m.name n) || Wanted m) (λ m s. not (bytes_eq m.name n) || m.says s)
         (schema_of_both join (property_at n ps) x (property_at n qs) y)
         (settled_schema (property_at n ps) x (property_at n qs) y)
         (always_schema (property_at n ps) x (property_at n qs) y (proper_at n ps pp) px (proper_at n qs pq) py)
         (λ m is. one m is (bytes_eq m.name n) refl) js each
       where
-        one : (m : Member) → IsMember m → (b : Bool) → bytes_eq m.name n ≡ b → Meets IsProper (not b || Wanted m) (λ s. not b || m.says s) (schema_of_both join (property_at n ps) x (property_at n qs) y)
+        one : (m : Member) → IsJudged m → (b : Bool) → bytes_eq m.name n ≡ b → Meets IsProper (not b || Wanted m) (λ s. not b || m.says s) (schema_of_both join (property_at n ps) x (property_at n qs) y)
         one m is false e = meets-nothing IsProper true (schema_of_both join (property_at n ps) x (property_at n qs) y)
             (settled_schema (property_at n ps) x (property_at n qs) y)
             (always_schema (property_at n ps) x (property_at n qs) y (proper_at n ps pp) px (proper_at n qs pq) py)
         one m is true e = subst
             (λ k. Meets IsProper ((maybe m.says (property_at k ps) && (is_given (property_at k ps) || maybe m.says x)) && (maybe m.says (property_at k qs) && (is_given (property_at k qs) || maybe m.says y))) (λ s. m.says s) (schema_of_both join (property_at n ps) x (property_at n qs) y))
             (sym ((bytes_eq-Decides m.name n).0 e))
-            (schema_of_both_meets join m.says is.0 (property_at n ps) x (property_at n qs) y (proper_at n ps pp) px (proper_at n qs pq) py g)
+            (schema_of_both_meets join m.says is (property_at n ps) x (property_at n qs) y (proper_at n ps pp) px (proper_at n qs pq) py g)
 
     inside-cons : (n : List ℕ) (ns : List (List ℕ)) (f : Member → Bool) → Inside (n ∷ ns) f ≡ (AtName n f && Inside ns f)
     inside-cons n ns f = all-same (λ m. Unit {0}) _ (λ m. (not (bytes_eq m.name n) || f m) && (not (is_name m.name ns) || f m)) (λ m q. split (bytes_eq m.name n) (is_name m.name ns) (f m)) js (each-unit js) ∙ all-and _ _ js
@@ -302,13 +313,13 @@ module _ (join : Schema → Schema → Outcome Schema) (always : (a b : Schema) 
         Said ns props = Inside ns (binds_member props z)
 
         -- one judge says no
-        none_there : (n : List ℕ) (ms : List Member) → Each IsMember ms → list_any (λ m. bytes_eq m.name n) ms ≡ true → list_all (λ m. not (bytes_eq m.name n) || m.says (boolean false)) ms ≡ true → ⊥
+        none_there : (n : List ℕ) (ms : List Member) → Each IsJudged ms → list_any (λ m. bytes_eq m.name n) ms ≡ true → list_all (λ m. not (bytes_eq m.name n) || m.says (boolean false)) ms ≡ true → ⊥
         none_there n [] q h k = no_no h
         none_there n (m ∷ ms) q h k = cases (bytes_eq m.name n) h k (none_there n ms q.1)
           where
             cases : (b : Bool) → (b || list_any (λ m. bytes_eq m.name n) ms) ≡ true → ((not b || m.says (boolean false)) && list_all (λ m. not (bytes_eq m.name n) || m.says (boolean false)) ms) ≡ true
                 → (list_any (λ m. bytes_eq m.name n) ms ≡ true → list_all (λ m. not (bytes_eq m.name n) || m.says (boolean false)) ms ≡ true → ⊥) → ⊥
-            cases true h k after = yes_no (m.says (boolean false)) (q.0.0.at_boolean false) (and-1 (m.says (boolean false)) _ k)
+            cases true h k after = yes_no (m.says (boolean false)) (q.0.at_boolean false) (and-1 (m.says (boolean false)) _ k)
             cases false h k after = after h k
 
         is_false_sound : (s : Schema) → is_false s ≡ true → s ≡ boolean false
@@ -323,7 +334,7 @@ module _ (join : Schema → Schema → Outcome Schema) (always : (a b : Schema) 
         module _ (n : List ℕ) (ns : List (List ℕ)) (new : is_name n ns ≡ false) (s : Schema) (proper : IsProper s) where
           -- a property that is put
           put_says : (props : Properties) → Said (n ∷ ns) (property n s props) ≡ (AtName n (λ m. m.says s) && Said ns props)
-          put_says props = all-same IsMember _ (λ m. (not (bytes_eq m.name n) || m.says s) && (not (is_name m.name ns) || binds_member props z m)) (λ m q. one m (bytes_eq m.name n) refl) js each ∙ all-and _ _ js
+          put_says props = all-same IsJudged _ (λ m. (not (bytes_eq m.name n) || m.says s) && (not (is_name m.name ns) || binds_member props z m)) (λ m q. one m (bytes_eq m.name n) refl) js each ∙ all-and _ _ js
             where
               kept : (b g : Bool) → (b && (true || g)) ≡ (b && true)
               kept true g = refl
@@ -337,14 +348,14 @@ module _ (join : Schema → Schema → Outcome Schema) (always : (a b : Schema) 
 
           -- one that is left out, where nothing else may stand
           left_out_says : s ≡ boolean false → z ≡ the_schema (boolean false) → (props : Properties) → Makes ns props → Said (n ∷ ns) props ≡ (AtName n (λ m. m.says s) && Said ns props)
-          left_out_says es ez props made = all-same IsMember _ (λ m. (not (bytes_eq m.name n) || m.says s) && (not (is_name m.name ns) || binds_member props z m)) (λ m q. one m q (bytes_eq m.name n) refl) js each ∙ all-and _ _ js
+          left_out_says es ez props made = all-same IsJudged _ (λ m. (not (bytes_eq m.name n) || m.says s) && (not (is_name m.name ns) || binds_member props z m)) (λ m q. one m q (bytes_eq m.name n) refl) js each ∙ all-and _ _ js
             where
-              none : (m : Member) → IsMember m → bytes_eq m.name n ≡ true → binds_member props z m ≡ m.says s
+              none : (m : Member) → IsJudged m → bytes_eq m.name n ≡ true → binds_member props z m ≡ m.says s
               none m q e =
                   let g = made.1 m.name (ap (λ k. is_name k ns) ((bytes_eq-Decides m.name n).0 e) ∙ new) in
                   ap (λ p. maybe m.says p && (is_given p || maybe m.says z)) g ∙ ap (λ y. maybe m.says y) ez ∙ sym (ap m.says es)
 
-              one : (m : Member) → IsMember m → (a : Bool) → bytes_eq m.name n ≡ a
+              one : (m : Member) → IsJudged m → (a : Bool) → bytes_eq m.name n ≡ a
                   → (not (a || is_name m.name ns) || binds_member props z m) ≡ ((not a || m.says s) && (not (is_name m.name ns) || binds_member props z m))
               one m q false e = refl
               one m q true e = none m q e ∙ sym (and-true (m.says s)) ∙ ap (λ b. m.says s && (not b || binds_member props z m)) (sym (ap (λ k. is_name k ns) ((bytes_eq-Decides m.name n).0 e) ∙ new))
@@ -426,17 +437,17 @@ module _ (join : Schema → Schema → Outcome Schema) (always : (a b : Schema) 
     given_names k = named_all k (names_of ps) (names_of qs) ∙ (λ i. names_given k ps i || names_given k qs i)
 
     rests_meet : Meets ProperMaybe (Outside Names Wanted) (λ z. Outside Names (λ m. maybe m.says z)) (two_rests join x y)
-    rests_meet = meets-all ProperMaybe IsMember (λ m. is_name m.name Names || Wanted m) (λ m z. is_name m.name Names || maybe m.says z) (two_rests join x y) (settled_rests x y) (always_rests x y px py)
+    rests_meet = meets-all ProperMaybe IsJudged (λ m. is_name m.name Names || Wanted m) (λ m z. is_name m.name Names || maybe m.says z) (two_rests join x y) (settled_rests x y) (always_rests x y px py)
         (λ m is. one m is (is_name m.name Names) refl) js each
       where
-        one : (m : Member) → IsMember m → (b : Bool) → is_name m.name Names ≡ b → Meets ProperMaybe (b || Wanted m) (λ z. b || maybe m.says z) (two_rests join x y)
+        one : (m : Member) → IsJudged m → (b : Bool) → is_name m.name Names ≡ b → Meets ProperMaybe (b || Wanted m) (λ z. b || maybe m.says z) (two_rests join x y)
         one m is true e = meets-nothing ProperMaybe true (two_rests join x y) (settled_rests x y) (always_rests x y px py)
         one m is false e =
             let h = sym (given_names m.name) ∙ e in
             meets-wanted ProperMaybe (maybe m.says x && maybe m.says y) (Wanted m) (λ z. maybe m.says z) (two_rests join x y)
             (λ i. sym (ap (λ p. maybe m.says p && (is_given p || maybe m.says x)) (not_given (property_at m.name ps) (or-1 (is_given (property_at m.name ps)) _ h))) i
             && sym (ap (λ p. maybe m.says p && (is_given p || maybe m.says y)) (not_given (property_at m.name qs) (or-2 (is_given (property_at m.name ps)) _ h))) i)
-            (two_rests_meet join m.says is.0 x y px py)
+            (two_rests_meet join m.says is x y px py)
 
     split_names : (f : Member → Bool) → list_all f js ≡ (Outside Names f && Inside Names f)
     split_names f = all-same (λ m. Unit {0}) f (λ m. (is_name m.name Names || f m) && (not (is_name m.name Names) || f m)) (λ m q. split (is_name m.name Names) (f m)) js (each-unit js) ∙ all-and _ _ js
@@ -450,30 +461,16 @@ module _ (join : Schema → Schema → Outcome Schema) (always : (a b : Schema) 
         split false true = refl
         split false false = refl
 
-    -- ---- both sides whole
+    -- ---- both sides whole, where no member stands for its absence
 
-    module _ (r : Relations) (name : List ℕ → Judge) (c object_type : Bool) (rules_say : MemberRules → Bool)
+    module _ (c object_type : Bool) (rules_say : MemberRules → Bool)
         (joined_say : (a b : MemberRules) → rules_say (joined_members a b) ≡ (rules_say a && rules_say b))
         (crossed_say : (a : MemberRules) → c ≡ true → object_type ≡ true → sizes_cross a.min_properties a.max_properties ≡ true → rules_say a ≡ true → ⊥)
-        (there : (a : MemberRules) (n : List ℕ) → c ≡ true → object_type ≡ true → rules_say a ≡ true → is_name n a.required ≡ true → list_any (λ m. bytes_eq m.name n) js ≡ true)
         (a b : MemberRules)
+        (there : (n : List ℕ) → c ≡ true → object_type ≡ true → rules_say (joined_members a b) ≡ true → is_name n (joined_members a b).required ≡ true → list_any (λ m. bytes_eq m.name n) js ≡ true)
       where
         abbrev Says : Named → Bool
-        Says = named_say js r name rules_say
-
-        -- a member that does not stand for its absence
-        plain_binds : (qs : Properties) (z : MaybeSchema) (needed : List (List ℕ)) (m : Member) → m.as_absent ≡ false → member_agrees r name qs no_properties z no_schema needed m ≡ binds_member qs z m
-        plain_binds qs z needed m e = (λ i. ((((e i && not (list_any (bytes_eq m.name) needed)) || maybe m.says (property_at m.name qs)) && true) && ((is_given (property_at m.name qs) || false) || maybe m.says z)) && true)
-            ∙ go (maybe m.says (property_at m.name qs)) (is_given (property_at m.name qs)) (maybe m.says z)
-          where
-            go : (d e f : Bool) → (((d && true) && ((e || false) || f)) && true) ≡ (d && (e || f))
-            go false e f = refl
-            go true true f = refl
-            go true false true = refl
-            go true false false = refl
-
-        plain_say : (qs : Properties) (z : MaybeSchema) (needed : List (List ℕ)) → list_all (member_agrees r name qs no_properties z no_schema needed) js ≡ list_all (binds_member qs z) js
-        plain_say qs z needed = all-same IsMember _ (binds_member qs z) (λ m q. plain_binds qs z needed m q.1) js each
+        Says = strictly_say js rules_say
 
         abbrev Joined : MemberRules
         Joined = joined_members a b
@@ -484,7 +481,7 @@ module _ (join : Schema → Schema → Outcome Schema) (always : (a b : Schema) 
             mapped (λ rules. named props no_properties z no_schema rules) (two_member_rules object_type a b)))
 
         outside_same : (z : MaybeSchema) (props : Properties) → ((k : List ℕ) → is_name k Names ≡ false → property_at k props ≡ no_schema) → Outside Names (binds_member props z) ≡ Outside Names (λ m. maybe m.says z)
-        outside_same z props h = all-same IsMember _ (λ m. is_name m.name Names || maybe m.says z) (λ m q. one m (is_name m.name Names) refl) js each
+        outside_same z props h = all-same IsJudged _ (λ m. is_name m.name Names || maybe m.says z) (λ m q. one m (is_name m.name Names) refl) js each
           where
             one : (m : Member) (t : Bool) → is_name m.name Names ≡ t → (t || binds_member props z m) ≡ (t || maybe m.says z)
             one m true e = refl
@@ -496,7 +493,7 @@ module _ (join : Schema → Schema → Outcome Schema) (always : (a b : Schema) 
         result_says : (d : MemberRules) (z : MaybeSchema) (props : Properties) → ((k : List ℕ) → is_name k Names ≡ false → property_at k props ≡ no_schema)
             → (c && Says (named props no_properties z no_schema d)) ≡ (((c && rules_say d) && Outside Names (λ m. maybe m.says z)) && Inside Names (binds_member props z))
         result_says d z props h =
-            ap (λ t. c && (t && rules_say d)) (plain_say props z d.required ∙ split_names (binds_member props z) ∙ ap (λ t. t && Inside Names (binds_member props z)) (outside_same z props h))
+            ap (λ t. c && (t && rules_say d)) (split_names (binds_member props z) ∙ ap (λ t. t && Inside Names (binds_member props z)) (outside_same z props h))
             ∙ turn c (Outside Names (λ m. maybe m.says z)) (Inside Names (binds_member props z)) (rules_say d)
           where
             turn : (c o i d : Bool) → (c && ((o && i) && d)) ≡ (((c && d) && o) && i)
@@ -540,14 +537,13 @@ module _ (join : Schema → Schema → Outcome Schema) (always : (a b : Schema) 
             (λ props m. sizes_meet z pz props m.0 m.1)))
           where
             existing : (z : MaybeSchema) (n : List ℕ) → (Known && Outside Names (λ m. maybe m.says z)) ≡ true → object_type ≡ true → is_name n Joined.required ≡ true → list_any (λ m. bytes_eq m.name n) js ≡ true
-            existing z n t k h = let u = and-1 Known _ t in there Joined n (and-1 c _ u) k (and-2 c _ u) h
+            existing z n t k h = let u = and-1 Known _ t in there n (and-1 c _ u) k (and-2 c _ u) h
 
-        pub inner_meets : Meets ProperNamed (c && (Says (named ps no_properties x no_schema a) && Says (named qs no_properties y no_schema b))) (λ o. c && Says o) Inner
-        inner_meets = meets-wanted ProperNamed (Known && list_all Wanted js) _ (λ o. c && Says o) Inner
+        pub strictly_meets : Meets ProperNamed (c && (Says (named ps no_properties x no_schema a) && Says (named qs no_properties y no_schema b))) (λ o. c && Says o) Inner
+        strictly_meets = meets-wanted ProperNamed (Known && list_all Wanted js) _ (λ o. c && Says o) Inner
             (assoc c (rules_say Joined) (list_all Wanted js)
             ∙ ap (λ t. c && t) (ap (λ t. t && list_all Wanted js) (joined_say a b) ∙ ap (λ t. (rules_say a && rules_say b) && t) (all-and (binds_member ps x) (binds_member qs y) js)
-            ∙ turn (rules_say a) (rules_say b) (list_all (binds_member ps x) js) (list_all (binds_member qs y) js)
-            ∙ (λ i. (sym (plain_say ps x a.required) i && rules_say a) && (sym (plain_say qs y b.required) i && rules_say b))))
+            ∙ turn (rules_say a) (rules_say b) (list_all (binds_member ps x) js) (list_all (binds_member qs y) js)))
             whole_meets
           where
             assoc : (a b d : Bool) → ((a && b) && d) ≡ (a && (b && d))
@@ -565,60 +561,3 @@ module _ (join : Schema → Schema → Outcome Schema) (always : (a b : Schema) 
             turn true true true q = sym (and-true q)
             turn true false true true = refl
             turn true false true false = refl
-
--- ---- the keywords of members of both sides
-
-module _ (join : Schema → Schema → Outcome Schema) (always : (a b : Schema) → IsProper a → IsProper b → Always IsProper (join a b))
-    (js : List Member) (each : Each (IsMember join always) js) (nulls : Bool)
-    (r : Relations) (name : List ℕ → Judge) (c object_type : Bool) (rules_say : MemberRules → Bool)
-    (joined_say : (a b : MemberRules) → rules_say (joined_members a b) ≡ (rules_say a && rules_say b))
-    (crossed_say : (a : MemberRules) → c ≡ true → object_type ≡ true → sizes_cross a.min_properties a.max_properties ≡ true → rules_say a ≡ true → ⊥)
-    (there : (a : MemberRules) (n : List ℕ) → c ≡ true → object_type ≡ true → rules_say a ≡ true → is_name n a.required ≡ true → list_any (λ m. bytes_eq m.name n) js ≡ true)
-  where
-    abbrev Say : Named → Bool
-    Say = named_say js r name rules_say
-
-    abbrev Of : Named → Named → Bool
-    Of ns os = c && (Say ns && Say os)
-
-    abbrev Made : Properties → MaybeSchema → MemberRules → Properties → MaybeSchema → MemberRules → Outcome Named
-    Made ps x a qs y b = and_then (two_rests join x y) (λ rest. and_then (properties_of join ps x qs y nulls object_type (no_rest rest) (joined_members a b).required (all_names (names_of ps) (names_of qs))) (λ props.
-        mapped (λ rules. named props no_properties rest no_schema rules) (two_member_rules object_type a b)))
-
-    made_meets : (ps : Properties) (x : MaybeSchema) (a : MemberRules) (qs : Properties) (y : MaybeSchema) (b : MemberRules) → ProperProperties ps → ProperMaybe x → ProperProperties qs → ProperMaybe y
-        → Meets ProperNamed (Of (named ps no_properties x no_schema a) (named qs no_properties y no_schema b)) (λ o. c && Say o) (Made ps x a qs y b)
-    made_meets ps x a qs y b p px q py = inner_meets join always ps x qs y p px q py js each nulls r name c object_type rules_say joined_say crossed_say there a b
-
-    proper_kept : (os : Named) → ProperNamed os → ProperNamed (kept_named os)
-    proper_kept no_named h = h
-    proper_kept (named no_properties no_properties no_schema no_schema d) h = go (no_member_rules d)
-      where
-        go : (b : Bool) → ProperNamed (if b then no_named else named no_properties no_properties no_schema no_schema d)
-        go true = tt
-        go false = h
-    proper_kept (named no_properties no_properties no_schema (the_schema s) d) h = h
-    proper_kept (named no_properties no_properties (the_schema s) xn d) h = h
-    proper_kept (named no_properties (property n s pp) x xn d) h = h
-    proper_kept (named (property n s ps) pp x xn d) h = h
-
-    always-kept : (o : Outcome Named) → Always ProperNamed o → Always ProperNamed (mapped (kept_if true) o)
-    always-kept (fault f) h = tt
-    always-kept (never ns) h = tt
-    always-kept (answer ns a) h = proper_kept a h
-
-    -- a pattern or names on one side
-    patterned : (ns os : Named) (notes : List Note) (ps : Properties) (x : MaybeSchema) (a : MemberRules) (qs : Properties) (y : MaybeSchema) (b : MemberRules) → ProperProperties ps → ProperMaybe x → ProperProperties qs → ProperMaybe y
-        → Meets ProperNamed (Of ns os) (λ o. c && Say o) (noted notes (noted (both_ways of_names) (mapped (kept_if true) (Made ps x a qs y b))))
-    patterned ns os notes ps x a qs y b p px q py = meets-noted ProperNamed (Of ns os) (λ o. c && Say o) notes (noted (both_ways of_names) (mapped (kept_if true) (Made ps x a qs y b)))
-        (meets-both_ways ProperNamed (Of ns os) (λ o. c && Say o) of_names (mapped (kept_if true) (Made ps x a qs y b))
-        (always-kept (Made ps x a qs y b) (always-meets ProperNamed (Of (named ps no_properties x no_schema a) (named qs no_properties y no_schema b)) (λ o. c && Say o) (Made ps x a qs y b) (made_meets ps x a qs y b p px q py))))
-
-    pub two_named_meet : (ns os : Named) → ProperNamed ns → ProperNamed os → Meets ProperNamed (Of ns os) (λ o. c && Say o) (two_named join nulls object_type ns os)
-    two_named_meet no_named os p q = meets-exactly ProperNamed _ (λ o. c && Say o) [] os q refl
-    two_named_meet (named ps pp x xn a) no_named p q = meets-exactly ProperNamed _ (λ o. c && Say o) [] (named ps pp x xn a) p (ap (λ t. c && t) (sym (and-true _)))
-    two_named_meet (named ps no_properties x no_schema a) (named qs no_properties y no_schema b) p q =
-        meets-noted ProperNamed (Of (named ps no_properties x no_schema a) (named qs no_properties y no_schema b)) (λ o. c && Say o) (note_if nulls (absent_notes ps x a qs y b)) (noted [] (mapped (λ o. o) (Made ps x a qs y b)))
-        (meets-noted ProperNamed (Of (named ps no_properties x no_schema a) (named qs no_properties y no_schema b)) (λ o. c && Say o) [] (mapped (λ o. o) (Made ps x a qs y b))
-        (meets-mapped ProperNamed ProperNamed (Of (named ps no_properties x no_schema a) (named qs no_properties y no_schema b)) (λ o. c && Say o) (λ o. c && Say o) (λ o. o) (Made ps x a qs y b) (made_meets ps x a qs y b p.0 p.2 q.0 q.2) (λ o p. p) (λ o p. refl)))
-    two_named_meet (named ps no_properties x no_schema a) (named qs qq y yn b) p q = patterned (named ps no_properties x no_schema a) (named qs qq y yn b) (note_if nulls (absent_notes ps x a qs y b)) ps x a qs y b p.0 p.2 q.0 q.2
-    two_named_meet (named ps pp x xn a) (named qs qq y yn b) p q = patterned (named ps pp x xn a) (named qs qq y yn b) (note_if nulls (absent_notes ps x a qs y b)) ps x a qs y b p.0 p.2 q.0 q.2

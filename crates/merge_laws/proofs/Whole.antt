@@ -23,7 +23,8 @@ use Rattle.merge_laws.specs.Laws.{Meets, Given, IsProper, ProperTypes, ProperNum
 use Rattle.merge_laws.proofs.Steps.{no_no, yes_no, and-1, and-2, and-in, no_way-1, no_way-2, Always, Each, always-meets, meets-exactly, meets-said, meets-wanted, meets-in, meets-step, meets-then, meets-mapped, meets-where_both}
 use Rattle.merge_laws.proofs.Leaves.{and-comm, listed_filter, type_sound, two_types_meet, format_agrees, two_formats_meet, two_lists_meet, listed_values_say}
 use Rattle.merge_laws.proofs.Sizes.{and-pairs, texts_say, is_text, two_texts_meet}
-use Rattle.merge_laws.proofs.Objects.{IsJudge, IsMember, named_say, two_named_meet}
+use Rattle.merge_laws.proofs.Objects.{IsJudge, named_say}
+use Rattle.merge_laws.proofs.Absent.{IsMember, two_named_meet}
 use Rattle.merge_laws.proofs.Arrays.{lists_say, two_lists_parts_meet}
 use Rattle.merge_laws.proofs.Facts.{item_judges_of, member_judges_of, list_rules_say, member_rules_say, is_list, is_object, Coherent, ListFacts, MemberFacts, list_facts, member_facts}
 use Rattle.merge_defs.specs.Alike.{is_absent, nothing_beside}
@@ -224,7 +225,7 @@ module _ (r : Relations) (lawful : IsLawful r) where
   module _ (numbers_meet : NumbersMeet) (texts_same : (x y : Texts) → same_texts x y ≡ true → x ≡ y)
       (d : Document) (join less : Schema → Schema → Outcome Schema) (always : (a b : Schema) → IsProper a → IsProper b → Always IsProper (join a b))
       (v : Value) (whole : is_whole v ≡ true) (parts : Parts) (coherent : Coherent v parts)
-      (items : Each (IsJudge join) (item_judges_of v parts)) (members : Each (IsMember join always) (member_judges_of v parts))
+      (items : Each (IsJudge join) (item_judges_of v parts)) (members : Each (IsMember join (counts_as_absent d.setting null)) (member_judges_of v parts))
       (J : Judge) (form : (p : Plain) (ls : Lists) (ns : Named) → p.reference ≡ None → J (object p no_same ls ns) ≡ (plain_agrees r p v && parts_agree r v parts ls ns))
     where
       abbrev U : {A : Type 0} → A → Type 0
@@ -355,7 +356,7 @@ module _ (r : Relations) (lawful : IsLawful r) where
         k5 : (t : Option Types) (f : Option (List ℕ)) (n : Option Numbers) (x : Option Texts) (l : Lists) → Given ProperTypes t → Given ProperNumbers n → ProperLists l
             → Meets IsProper (((((Ts t && Fs f) && Ns n) && Xs x) && Ls l) && (W6 && W7)) J (K5 t f n x l)
         k5 t f n x l pt pn' pl' = meets-step ProperNamed IsProper ((((Ts t && Fs f) && Ns n) && Xs x) && Ls l) W6 W7 Ms J (two_named join (counts_as_absent d.setting null) (is_only Object t) ns os) (K6 t f n x l)
-            (two_named_meet join always (member_judges_of v parts) members (counts_as_absent d.setting null) r parts.name ((((Ts t && Fs f) && Ns n) && Xs x) && Ls l) (is_only Object t) (member_rules_say v) facts.joined_say facts.crossed_say facts.there ns os pn qn)
+            (two_named_meet join always (counts_as_absent d.setting null) (member_judges_of v parts) members r parts.name ((((Ts t && Fs f) && Ns n) && Xs x) && Ls l) (is_only Object t) (member_rules_say v) facts.joined_say facts.crossed_say facts.there ns os pn qn)
             (λ m pm. k6 t f n x l m pt pn' pl' pm)
           where
             typed : ((((Ts t && Fs f) && Ns n) && Xs x) && Ls l) ≡ true → Ts t ≡ true
@@ -417,7 +418,7 @@ module _ (r : Relations) (lawful : IsLawful r) (numbers_meet : NumbersMeet) (tex
     (v : Value) (whole : is_whole v ≡ true) (parts : Parts) (coherent : Coherent v parts)
     (J : Judge) (is : IsJudge join J)
     (takes : (a b : Schema) → IsProper a → IsProper b → Meets IsProper (J a && not (J b)) J (less a b))
-    (items : Each (IsJudge join) (item_judges_of v parts)) (members : Each (IsMember join (λ a b p q. always-meets IsProper (J a && J b) J (join a b) (is.merges a b p q))) (member_judges_of v parts))
+    (items : Each (IsJudge join) (item_judges_of v parts)) (members : Each (IsMember join (counts_as_absent d.setting null)) (member_judges_of v parts))
     (same_judge : JudgesSame J)
     (apart : (s t : Schema) → are_apart d s t ≡ true → J s ≡ true → J t ≡ true → ⊥)
     (form : (p : Plain) (ss : Same) (ls : Lists) (ns : Named) → J (object p ss ls ns) ≡ (((plain_agrees r p v && if_given (λ q. follow J (target d q)) p.reference) && parts_agree r v parts ls ns) && same_says J ss))

@@ -4,7 +4,6 @@ use Rattle.std.specs.List.{list_all}
 use Rattle.json_value.specs.Value.{Value, is_whole}
 use Rattle.schema_defs.specs.declared.InstanceType.{InstanceType}
 use Rattle.schema_defs.specs.declared.InstanceType.TheVariants.{Number}
-use Rattle.schema_defs.specs.declared.Setting.TheVariants.{Strict}
 use Rattle.schema_defs.specs.Texts.{Relations, IsLawful}
 use Rattle.schema_defs.specs.Schema.{Types, one_type, many_types, Numbers, Plain, Schema, boolean, object, Same, no_same, same_value, Lists, no_lists, lists, Named, no_named, named, MaybeSchema, no_schema, the_schema, MaybeSchemas, no_list, the_list, Schemas, no_more, schema, schema_list, Places, no_items, each_item, by_place, Properties, no_properties, property, Definition, Document}
 use Rattle.schema_defs.specs.Admits.{admits}
@@ -86,7 +85,7 @@ ProperDefinitions (e ∷ es) = IsProper e.body × ProperDefinitions es
 abbrev pub ProperDocument : Document → Type 0
 ProperDocument d = IsProper d.root × ProperDefinitions d.definitions
 
--- ---- the laws, where null does not stand for an absent member
+-- ---- the laws, in a document of either setting
 
 -- a merge admits what both admit, a body with subschemas what it and they admit, a merge of several what all admit, and what is left of a schema admits what it admits and the other refuses, up to notes
 pub record MergesAdmitBoth (r : Relations) (d : Document) (v : Value) : Type 0 where
@@ -96,9 +95,9 @@ pub record MergesAdmitBoth (r : Relations) (d : Document) (v : Value) : Type 0 w
   pub leaves : (n : ℕ) (a b : Schema) → IsProper a → IsProper b → Meets IsProper (admits r d v a && not (admits r d v b)) (admits r d v) (less d n a b)
 
 abbrev pub MergesAreMeets : Type 0
-MergesAreMeets = (r : Relations) → IsLawful r → (d : Document) → IsGuarded d → d.setting ≡ Strict → ProperDocument d → (v : Value) → is_whole v ≡ true → MergesAdmitBoth r d v
+MergesAreMeets = (r : Relations) → IsLawful r → (d : Document) → IsGuarded d → ProperDocument d → (v : Value) → is_whole v ≡ true → MergesAdmitBoth r d v
 
 -- where the merge of several is never, without a Narrowed note, there is no value that all admit
 abbrev pub NeverIsEmpty : Type 0
-NeverIsEmpty = (r : Relations) → IsLawful r → (d : Document) → IsGuarded d → d.setting ≡ Strict → ProperDocument d → (v : Value) → is_whole v ≡ true
+NeverIsEmpty = (r : Relations) → IsLawful r → (d : Document) → IsGuarded d → ProperDocument d → (v : Value) → is_whole v ≡ true
     → (n : ℕ) (ss : Schemas) → ProperAll ss → (ns : List Note) → merge_all d n ss ≡ never ns → has_way narrowed ns ≡ false → list_all (admits r d v) (schema_list ss) ≡ false
