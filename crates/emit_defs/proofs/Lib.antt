@@ -1,0 +1,13 @@
+pub mod Acyclic
+pub mod Found
+pub mod Pairs
+pub mod Places
+pub mod Both
+pub mod Struct
+pub mod Enum
+pub mod Level
+pub mod Reading
+pub mod Meaning
+pub mod Spelling
+pub mod Boxed
+pub mod Named

@@ -1,0 +1,9 @@
+pub mod Setting
+pub mod Models
+pub mod Trees
+pub mod Emission
+pub mod Law
+pub mod Spelled
+pub mod Formed
+pub mod Boxing
+pub mod Examples

@@ -1,0 +1,15 @@
+pub mod Metas
+pub mod Acts
+pub mod Fields
+pub mod Bodies
+pub mod Containers
+pub mod Told
+pub mod Checks
+pub mod Whole
+pub mod Words
+pub mod Alone
+pub mod Read
+pub mod Inside
+pub mod Forms
+pub mod Outside
+pub mod Assembled

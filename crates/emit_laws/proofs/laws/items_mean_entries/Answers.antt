@@ -1,0 +1,7 @@
+use Rattle.emit_texts.proofs.Functions.{functions_are_read}
+use Rattle.emit_texts.proofs.Types.{types_are_read_again}
+use Rattle.emit_laws.proofs.Assembled.{items_mean_entries}
+use Rattle.emit_laws.proofs.laws.items_mean_entries.Goals as goal
+
+pub returns : goal.returns
+returns c = items_mean_entries functions_are_read types_are_read_again

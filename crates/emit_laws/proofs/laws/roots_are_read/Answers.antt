@@ -1,0 +1,7 @@
+use Rattle.emit_texts.proofs.Functions.{functions_are_read}
+use Rattle.emit_texts.proofs.Types.{types_are_read_again}
+use Rattle.emit_laws.proofs.Assembled.{roots_are_read}
+use Rattle.emit_laws.proofs.laws.roots_are_read.Goals as goal
+
+pub returns : goal.returns
+returns c = roots_are_read functions_are_read types_are_read_again

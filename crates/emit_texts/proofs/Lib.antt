@@ -1,0 +1,4 @@
+pub mod Names
+pub mod Functions
+pub mod Moved
+pub mod Types
