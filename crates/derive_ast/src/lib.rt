@@ -1,6 +1,7 @@
-//! Items as serde's derives see them: containers with their fields and what the attributes say of both.
+//! Containers read from items, their fields, and the ten checks.
 #![tactic(auto)]
 
-mod container;
+mod laws;
 
-pub use container::{Container, Data, Field, Style, Variant};
+pub use container_readers::{AllFields, Container, Data, Field, Style, Variant, check};
+pub use laws::containers_read_alike;

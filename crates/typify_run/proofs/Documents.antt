@@ -20,7 +20,7 @@ computed : (fs : Fields) (ps : Members) (rs : Items)
 unfolding document_of definitions_of schema_of named_of lists_of same_of plain_of texts_of numbers_of
 computed fs ps rs e f = rw (e, f) refl
 
-chosen : {A : Type 0} → (b : Bool) (x y z : A) → (if b then x else y) ≡ z → ((b ≡ true) × (x ≡ z)) ⊎ ((b ≡ false) × (y ≡ z))
+pub chosen : {A : Type 0} → (b : Bool) (x y z : A) → (if b then x else y) ≡ z → ((b ≡ true) × (x ≡ z)) ⊎ ((b ≡ false) × (y ≡ z))
 chosen true x y z h = inl (refl, h)
 chosen false x y z h = inr (refl, h)
 
@@ -56,7 +56,7 @@ field_read (object (member n (text t) no_members)) k h =
     ]
 field_read _ k h = cc
 
-both_read : (n : List ℕ) (a : Option FlatKind) (b : Option Fields) (fs : Fields) → Some (λ (k : FlatKind) (gs : Fields). (n, k) ∷ gs) ⊛ a ⊛ b ≡ Some fs
+pub both_read : (n : List ℕ) (a : Option FlatKind) (b : Option Fields) (fs : Fields) → Some (λ (k : FlatKind) (gs : Fields). (n, k) ∷ gs) ⊛ a ⊛ b ≡ Some fs
     → (k : FlatKind) × (gs : Fields) × (a ≡ Some k) × (b ≡ Some gs) × ((n, k) ∷ gs ≡ fs)
 both_read n None None fs h = cc
 both_read n (Some k) None fs h = cc
@@ -82,7 +82,7 @@ names_read (member n v ps) fs h =
       | inr p ↦ cc
     ]
 
-both_true : (a b : Bool) → (a && b) ≡ true → (a ≡ true) × (b ≡ true)
+pub both_true : (a b : Bool) → (a && b) ≡ true → (a ≡ true) × (b ≡ true)
 both_true true b h = (refl, h)
 both_true false b h = cc
 

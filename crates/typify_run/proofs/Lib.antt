@@ -7,8 +7,8 @@ pub mod Names
 pub mod Places
 pub mod Members
 pub mod Ordered
+pub mod KeptNames
 pub mod Emitted
-pub mod PlainTypes
 pub mod Judged
 pub mod Reported
 pub mod Causes

@@ -16,19 +16,20 @@ use Rattle.model_defs.specs.Refusals.{refused_at}
 use Rattle.schema_tree.specs.Form.{form_of}
 use Rattle.schema_tree.specs.Numbers.{are_i64, holds_i64_alone}
 use Rattle.schema_tree.proofs.NoFloat.{no_float}
-use Rattle.typify_run.specs.Flat.{Fields, flat_document, flats}
-use Rattle.derive_ast.specs.Model.{IsNamedStruct, all_named}
+use Rattle.typify_run.specs.Flat.{Fields, AreKeptNames, flat_document, flats}
 use Rattle.typify_run.specs.Item.{field_of, root_item, root_ty}
 use Rattle.schema_tree.specs.Conversions.{conversions_view}
-use Rattle.typify_run.specs.Model.{item_model}
 use Rattle.typify_run.specs.Verdict.{VerdictD, verdict_view}
 use Rattle.typify_run.specs.Place.{place_of}
 use Rattle.typify_run.specs.Page.{IsPrintable, ArePrintable}
-use Rattle.typify_run.specs.Reader.{verdict_at, AreFlatJudged}
-use Rattle.typify_run.specs.Headline.{IsClean, report_reads, report_refuses, document_admits, IsReportOf}
+use Rattle.typify_run.specs.Reader.{verdict_at, AreFlatJudged, plain_reading, own_module, read_back_by}
+use Rattle.std.proofs.lemmas.Option.{same_Some}
+use Rattle.attr_parts.specs.declared.derive.Derive.TheVariants.{Deserialize}
+use Rattle.typify_run.specs.Headline.{Deriving, IsClean, report_reads, report_refuses, document_admits, IsReportOf}
 use Rattle.typify_run.specs.declared.report.Report.{Report}
 use Rattle.typify_run.proofs.Documents.{form_read}
-use Rattle.typify_run.proofs.Emitted.{root_clean, root_model, root_reads, root_refuses, root_exact}
+use Rattle.typify_run.proofs.KeptNames.{form_kept}
+use Rattle.typify_run.proofs.Emitted.{root_clean, root_read_back, read_of, root_reads, root_refuses, root_exact}
 use Rattle.typify_run.proofs.Judged.{judged}
 
 -- ---- what a reader reads is its item's
@@ -51,17 +52,12 @@ flats_alike m n b c xs ys h =
     let same : map flat_field xs ≡ map flat_field ys = cc in
     fields_alike xs ys same
 
-named_each : (fs : Fields) → all_named (map field_of fs) ≡ true
-named_each [] = refl
-named_each (f ∷ fs) = named_each fs
-
--- the item is a struct with named fields
-pub root_named : (fs : Fields) → IsNamedStruct (root_item fs)
-root_named fs = (named_each fs, refl)
-
-pub reader_is : (i : ItemD) (fs : Fields) (n : List ℕ) (b : Bool) (xs : List Flat) → i ≡ root_item fs → item_model i ≡ flat_model n b xs → (true ≡ b) × (flats fs ≡ xs)
-reader_is i fs n b xs e h =
-    let both = sym (root_model fs) ∙ sym (ap item_model e) ∙ h in
+-- a reader of the form's item is that of its fields
+pub reader_is : (i : ItemD) (fs : Fields) (n : List ℕ) (b : Bool) (xs : List Flat) → i ≡ root_item fs → AreKeptNames fs
+    → read_back_by (plain_reading own_module Deserialize) i ≡ Some (flat_model n b xs) → (true ≡ b) × (flats fs ≡ xs)
+reader_is i fs n b xs e kept h =
+    let both : flat_model (codes "Root") true (flats fs) ≡ flat_model n b xs =
+    same_Some _ _ (sym (root_read_back (plain_reading own_module Deserialize) fs kept) ∙ sym (ap (read_back_by (plain_reading own_module Deserialize)) e) ∙ h) in
     (closed_alike (codes "Root") n true b (flats fs) xs both, flats_alike (codes "Root") n true b (flats fs) xs both)
 
 -- ---- verdicts are printed
@@ -89,25 +85,28 @@ module _ (texts : Relations) (schema : Value) (fs : Fields) (values : List Data)
   differ : names_differ (flats fs) ≡ true
   differ = (form_read schema fs form).1
 
-  read_alike : (v : Value) → report_reads texts r v ≡ reads (item_model (root_item fs) ∷ []) (conversions_view r.conversions) texts (type_of root_ty) v
-  read_alike v = λ i. reads (map item_model (items i)) (conversions_view r.conversions) texts (type_of (root i)) v
+  kept : AreKeptNames fs
+  kept = form_kept schema fs form
 
-  refused_alike : (v : Value) → report_refuses texts r v ≡ refused_at (item_model (root_item fs) ∷ []) (conversions_view r.conversions) texts (type_of root_ty) v
-  refused_alike v = λ i. refused_at (map item_model (items i)) (conversions_view r.conversions) texts (type_of (root i)) v
+  read_alike : (how : Deriving) (v : Value) → report_reads texts r how v ≡ reads (read_of how (root_item fs ∷ [])) (conversions_view r.conversions) texts (type_of root_ty) v
+  read_alike how v = λ i. reads (read_of how (items i)) (conversions_view r.conversions) texts (type_of (root i)) v
 
-  agrees : (v : Value) → IsSmall v → report_reads texts r v ≡ document_admits texts (flat_document fs) v
-  agrees v s = read_alike v ∙ root_exact texts (conversions_view r.conversions) fs differ v s
+  refused_alike : (how : Deriving) (v : Value) → report_refuses texts r how v ≡ refused_at (read_of how (root_item fs ∷ [])) (conversions_view r.conversions) texts (type_of root_ty) v
+  refused_alike how v = λ i. refused_at (read_of how (items i)) (conversions_view r.conversions) texts (type_of (root i)) v
+
+  agrees : (how : Deriving) (v : Value) → IsSmall v → report_reads texts r how v ≡ document_admits texts (flat_document fs) v
+  agrees how v s = read_alike how v ∙ root_exact texts (conversions_view r.conversions) how fs kept differ v s
 
   pub reported : AreFlatJudged true (flats fs) values (map verdict_view r.verdicts.items) → IsReportOf texts schema values r
   reported h = record {
     document = flat_document fs;
     is_read = (form_read schema fs form).0;
     clean = subst (AllByRecursion IsClean) (sym items) (root_clean fs, tt);
-    exact = λ n v s. agrees v s;
-    not_narrower = λ n v s a. agrees v s ∙ a;
-    not_wider = λ n v s a. sym (agrees v s) ∙ a;
-    verdicts = judged (report_reads texts r) (report_refuses texts r) true (flats fs)
-        (λ v a. read_alike v ∙ root_reads texts (conversions_view r.conversions) fs differ v a)
-        (λ v a n. refused_alike v ∙ root_refuses texts (conversions_view r.conversions) fs differ v a n)
+    exact = λ n how v s. agrees how v s;
+    not_narrower = λ n how v s a. agrees how v s ∙ a;
+    not_wider = λ n how v s a. sym (agrees how v s) ∙ a;
+    verdicts = λ how. judged (report_reads texts r how) (report_refuses texts r how) true (flats fs)
+        (λ v a. read_alike how v ∙ root_reads texts (conversions_view r.conversions) how fs kept differ v a)
+        (λ v a n. refused_alike how v ∙ root_refuses texts (conversions_view r.conversions) how fs kept differ v a n)
         values (map verdict_view r.verdicts.items) h;
   }

@@ -1,5 +1,5 @@
 -- Which values a closed object of plain fields admits.
-use Rattle.std.specs.Prelude.{ℕ, pos, neg_ℤ, ◌&&◌, List, [], ◌∷◌, map, Bool, true, false, Some, None, bytes_eq, if◌then◌else◌}
+use Rattle.std.specs.Prelude.{◌≡◌, ⊤, ℕ, pos, neg_ℤ, ◌&&◌, List, [], ◌∷◌, map, Bool, true, false, Some, None, bytes_eq, if◌then◌else◌}
 use Rattle.std.specs.List.{list_all}
 use Rattle.json_value.specs.Value.{Value, Members, text, number, boolean, object, member, no_members, has_name}
 use Rattle.schema_defs.specs.declared.InstanceType.{InstanceType}
@@ -9,10 +9,15 @@ use Rattle.schema_defs.specs.Schema as schema
 use Rattle.schema_defs.specs.Schema.{Plain, Schema, Document, one_type, no_same, no_lists, no_named, named, no_properties, no_schema, the_schema, properties}
 use Rattle.model_defs.specs.Types.{TypeModel, boolean_type, integer_type, text_type}
 use Rattle.model_defs.specs.Flat.{Flat}
-use Rattle.schema_tree.specs.Form.{FlatKind, text_kind, boolean_kind, integer_kind}
+use Rattle.schema_tree.specs.Form.{FlatKind, text_kind, boolean_kind, integer_kind, is_kept_name}
 
 abbrev pub Fields : Type 0
 Fields = List (List ℕ × FlatKind)
+
+-- each name is one that a field keeps as it is
+abbrev pub AreKeptNames : Fields → Type 0
+AreKeptNames [] = ⊤
+AreKeptNames (f ∷ fs) = (is_kept_name f.0 ≡ true) × AreKeptNames fs
 
 abbrev pub kind_admits : FlatKind → Value → Bool
 kind_admits text_kind (text s) = true

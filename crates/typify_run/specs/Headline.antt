@@ -13,41 +13,50 @@ use Rattle.schema_defs.specs.Texts.{Relations}
 use Rattle.schema_defs.specs.Schema.{Document}
 use Rattle.schema_defs.specs.Admits.{admits}
 use Rattle.schema_defs.specs.Read.{document_of}
-use Rattle.derive_attr.specs.declared.rename.RenameRule.{RenameRule}
-use Rattle.derive_attr.specs.declared.derive.Derive.{Derive}
-use Rattle.derive_ast.specs.Model.{diagnostics_of}
+use Rattle.attr_parts.specs.declared.derive.Derive.{Derive}
+use Rattle.attr_defs.specs.Renames.{Meaning}
+use Rattle.attr_defs.specs.Texts.{lexed}
+use Rattle.container_defs.specs.Model.{diagnostics_of}
+use Rattle.container_defs.specs.Reader.{item_models}
 use Rattle.model_defs.specs.Types.{TypeModel, type_of}
 use Rattle.model_defs.specs.Model.{ContainerModel}
 use Rattle.model_defs.specs.Reads.{reads}
 use Rattle.model_defs.specs.Refusals.{refused_at}
 use Rattle.schema_tree.specs.Conversions.{conversions_view}
-use Rattle.typify_run.specs.Model.{item_model}
 use Rattle.typify_run.specs.Verdict.{VerdictD, taken, refused, verdict_view}
 use Rattle.typify_run.specs.declared.note.Way.{Way}
 use Rattle.typify_run.specs.declared.note.Way.TheVariants.{Narrowed, Widened}
 use Rattle.typify_run.specs.declared.note.Note.{Note}
 use Rattle.typify_run.specs.declared.report.Report.{Report}
 
+-- how serde reads items: what rules make of names of variants and of fields, what its own module is called, and for which derive
+pub record Deriving : Type 0 where
+  pub variant_name : Meaning
+  pub field_name : Meaning
+  pub private : Name
+  pub derive : Derive
+
 -- neither derive has a diagnostic, whatever serde's own module is called and however names are written
 abbrev pub IsClean : ItemD → Type 0
-IsClean i = (variant_name field_name : RenameRule → List ℕ → List ℕ) (private : Name) (derive : Derive) → diagnostics_of variant_name field_name private i derive ≡ []
+IsClean i = (how : Deriving) → diagnostics_of lexed how.variant_name how.field_name how.private i how.derive ≡ []
 
 abbrev pub items_of : Report → List ItemD
 items_of r = map item_view r.items.items
 
-abbrev pub models_of : Report → List ContainerModel
-models_of r = map item_model (items_of r)
+-- the containers that are read back
+abbrev pub models_of : Deriving → Report → List ContainerModel
+models_of how r = item_models lexed how.variant_name how.field_name how.private how.derive (items_of r)
 
 abbrev pub root_of : Report → TypeModel
 root_of r = type_of (ty r.root)
 
 -- whether the containers read the value
-abbrev pub report_reads : Relations → Report → Value → Bool
-report_reads texts r v = reads (models_of r) (conversions_view r.conversions) texts (root_of r) v
+abbrev pub report_reads : Relations → Report → Deriving → Value → Bool
+report_reads texts r how v = reads (models_of how r) (conversions_view r.conversions) texts (root_of r) v
 
 -- where reading stops in a value that they don't read
-abbrev pub report_refuses : Relations → Report → Value → Location
-report_refuses texts r v = refused_at (models_of r) (conversions_view r.conversions) texts (root_of r) v
+abbrev pub report_refuses : Relations → Report → Deriving → Value → Location
+report_refuses texts r how v = refused_at (models_of how r) (conversions_view r.conversions) texts (root_of r) v
 
 abbrev pub document_admits : Relations → Document → Value → Bool
 document_admits texts d v = admits texts d v d.root
@@ -80,9 +89,9 @@ pub record IsReportOf (texts : Relations) (schema : Value) (values : List Data) 
   -- the items have no diagnostic
   pub clean : AllByRecursion IsClean (items_of r)
   -- without notes the containers read exactly the small values that the document admits, listed or not
-  pub exact : r.notes.items ≡ [] → (v : Value) → IsSmall v → report_reads texts r v ≡ document_admits texts document v
+  pub exact : r.notes.items ≡ [] → (how : Deriving) (v : Value) → IsSmall v → report_reads texts r how v ≡ document_admits texts document v
   -- without a note that they are narrower, they read each that is admitted; without one that they are wider, those alone
-  pub not_narrower : HasNone IsNarrowed r.notes.items → (v : Value) → IsSmall v → document_admits texts document v ≡ true → report_reads texts r v ≡ true
-  pub not_wider : HasNone IsWidened r.notes.items → (v : Value) → IsSmall v → report_reads texts r v ≡ true → document_admits texts document v ≡ true
+  pub not_narrower : HasNone IsNarrowed r.notes.items → (how : Deriving) (v : Value) → IsSmall v → document_admits texts document v ≡ true → report_reads texts r how v ≡ true
+  pub not_wider : HasNone IsWidened r.notes.items → (how : Deriving) (v : Value) → IsSmall v → report_reads texts r how v ≡ true → document_admits texts document v ≡ true
   -- the verdicts are those of the containers
-  pub verdicts : AreJudged (report_reads texts r) (report_refuses texts r) values (map verdict_view r.verdicts.items)
+  pub verdicts : (how : Deriving) → AreJudged (report_reads texts r how) (report_refuses texts r how) values (map verdict_view r.verdicts.items)

@@ -6,8 +6,7 @@ pub mod Verdict
 pub mod Page
 pub mod Place
 pub mod Reader
-pub mod Model
 pub mod Headline
-pub mod Kind
 pub mod Examine
 pub mod Outcome
+pub mod Plain

@@ -3,8 +3,6 @@ ghost use Rattle.std.specs.Prelude.{◌≡◌, ◌≤◌, IfOk, IfErr, OnOk, Som
 ghost use Rattle.syntax_trees.specs.Item.{item_view};
 ghost use Rattle.serde_json.specs.View.{view};
 ghost use Rattle.json_value.specs.View.{value_of};
-ghost use Rattle.derive_ast.specs.Model.{IsNamedStruct};
-ghost use Rattle.model_defs.specs.Flat.{flat_model};
 ghost use Rattle.schema_defs.specs.Texts.{Relations};
 ghost use Rattle.schema_tree.specs.Document.{IsAccepted};
 ghost use Rattle.schema_tree.specs.Fault.{fault_view, memory, unsupported as unsupported_at};
@@ -12,11 +10,11 @@ ghost use Rattle.schema_tree.specs.Numbers.{are_i64};
 ghost use Rattle.schema_tree.specs.declared.fault.UnsupportedKind.TheVariants.{NotYet};
 ghost use Rattle.schema_tree.specs.Form.{form_of};
 ghost use Rattle.schema_tree.specs.FormView.{fields_view};
+ghost use Rattle.typify_run.specs.Flat.{AreKeptNames};
 ghost use Rattle.typify_run.specs.Examine.{IsEmission, IsFlatReport, IsRefusal, is_examined};
 ghost use Rattle.typify_run.specs.Headline.{IsReportOf};
-ghost use Rattle.typify_run.specs.Model.{item_model};
 ghost use Rattle.typify_run.specs.Page.{ArePrintable};
-ghost use Rattle.typify_run.specs.Reader.{reader_closed, reader_flats};
+ghost use Rattle.typify_run.specs.Reader.{IsReadBack};
 ghost use Rattle.typify_run.specs.Verdict.{verdict_view};
 
 use crate::item::{root_item, root_type};
@@ -42,8 +40,7 @@ fn unsupported(alloc: Global) -> Fault
 
 // The item, read back.
 fn reader_of(alloc: Global, item: &DeriveInput) -> Result<Reader, AllocError>
-    requires { IsNamedStruct (item_view item.now) }
-    ensures { IfOk result (λ r. item_model (item_view item.now) ≡ flat_model (item_view item.now).name.text (reader_closed r) (reader_flats r)) }
+    ensures { IfOk result (IsReadBack (item_view item.now)) }
 {
     match Reader::read_back(alloc, item) {
         Ok(reader) => Ok(reader),
@@ -53,6 +50,7 @@ fn reader_of(alloc: Global, item: &DeriveInput) -> Result<Reader, AllocError>
 
 // The report of a closed object of those fields.
 fn report_of(alloc: Global, fields: &[FlatField], values: &[Value]) -> Result<Report, AllocError>
+    requires { AreKeptNames (fields_view fields.now) }
     ensures { IfOk result (λ r. IsFlatReport (fields_view fields.now) (map view values.now) r) }
 {
     let item = root_item(alloc, fields)?;

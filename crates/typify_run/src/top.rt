@@ -82,6 +82,8 @@ fn run_parts<K: Sink, T: Texts>(
     ensures answer { (parts : Parts) → parts.schema ≡ view schema.now → data_of parts.values ≡ map view values.now → Answers (T.relations texts.old) parts (K.written sink.old) (K.written sink.new) result.status result.report result.fault }
     ensures write_fault { result.status ≡ 5 → Rises (K.faults sink.old) (K.faults sink.new) }
     ensures kept { K.faults sink.old ≤ K.faults sink.new }
+    ensures keeps { T.relations texts.new ≡ T.relations texts.old }
+    ensures counts { T.faults texts.old ≤ T.faults texts.new }
 {
     match examine(alloc, schema, depth, values, texts) {
         Ok(report) => print_report(alloc, report, sink),
@@ -108,6 +110,8 @@ fn run_bytes<K: Sink, T: Texts>(
     ensures ends { Ends (T.relations texts.old) bytes.now (K.written sink.old) (K.written sink.new) result.status result.report result.fault }
     ensures write_fault { result.status ≡ 5 → Rises (K.faults sink.old) (K.faults sink.new) }
     ensures kept { K.faults sink.old ≤ K.faults sink.new }
+    ensures keeps { T.relations texts.new ≡ T.relations texts.old }
+    ensures counts { T.faults texts.old ≤ T.faults texts.new }
 {
     let value = match input_value(alloc, bytes) {
         Ok(value) => value,
@@ -136,6 +140,10 @@ fn run_check<S: Source, K: Sink, T: Texts>(
     ensures spent { (all : List ℕ) → S.left source.old ≡ Some all → IsPrinting result.status → S.left source.new ≡ Some [] }
     ensures read_fault { result.status ≡ 4 → Rises (S.faults source.old) (S.faults source.new) × IsBare (K.written sink.old) (K.written sink.new) result.report result.fault }
     ensures write_fault { result.status ≡ 5 → Rises (K.faults sink.old) (K.faults sink.new) }
+    ensures kept_source { S.faults source.old ≤ S.faults source.new }
+    ensures kept_sink { K.faults sink.old ≤ K.faults sink.new }
+    ensures keeps { T.relations texts.new ≡ T.relations texts.old }
+    ensures counts { T.faults texts.old ≤ T.faults texts.new }
 {
     match read_input(alloc, source, LIMIT) {
         Ok(bytes) => run_bytes(alloc, depth, &bytes, sink, texts),
@@ -170,6 +178,10 @@ pub fn run<S: Source, K: Sink, T: Texts>(
     ensures not_built { (all : List ℕ) (parts : Parts) → S.left source.old ≡ Some all → IsInput all parts → is_built parts ≡ false → (result.status ≡ 1) ⊎ ((result.status ≡ 2) ⊎ IsCutShort result.status) }
     ensures faulty { (all : List ℕ) (parts : Parts) (f : FaultD) → S.left source.old ≡ Some all → IsInput all parts → IsCauseIn parts f → (result.status ≡ 1) ⊎ ((result.status ≡ 2) ⊎ IsCutShort result.status) }
     ensures spent { (all : List ℕ) → S.left source.old ≡ Some all → IsPrinting result.status → S.left source.new ≡ Some [] }
+    ensures kept_source { S.faults source.old ≤ S.faults source.new }
+    ensures kept_sink { K.faults sink.old ≤ K.faults sink.new }
+    ensures keeps { T.relations texts.new ≡ T.relations texts.old }
+    ensures counts { T.faults texts.old ≤ T.faults texts.new }
 {
     match depth_of_words(words) {
         Some(depth) => run_check(alloc, depth, source, sink, texts),

@@ -4,8 +4,12 @@ use Rattle.json_value.specs.View.{value_of}
 use Rattle.schema_tree.specs.FormView.{fields_view}
 use Rattle.typify_run.specs.Flat.{flats}
 use Rattle.typify_run.specs.Verdict.{verdict_view}
+use Rattle.typify_run.proofs.KeptNames.{form_kept}
 use Rattle.typify_run.proofs.Reported.{reported, printable}
 use Rattle.typify_run.proofs.examination.examine_fields.Goals as goal
+
+pub report_of-requires : goal.report_of-requires
+report_of-requires c = form_kept (value_of (view c.args.document.now)) (fields_view c.args.fields.now) c.requires.form
 
 pub returns-in-Ok-clause-report : goal.returns-in-Ok-clause-report
 returns-in-Ok-clause-report c =

@@ -1,4 +1,0 @@
-pub mod Pieces
-pub mod Places
-pub mod Steps
-pub mod Fronts

@@ -1,7 +1,0 @@
-//! Tests of the readers of attributes and containers.
-#![tactic(auto)]
-
-#[cfg(test)]
-mod attributes;
-#[cfg(test)]
-mod containers;
