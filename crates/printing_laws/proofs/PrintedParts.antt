@@ -4,7 +4,7 @@ use Rattle.std.specs.Prelude.{codes, nat_eq}
 use Rattle.token_trees.specs.Token.{Tok, site}
 use Rattle.syntax_trees.specs.Syntax.{LifetimeD, TyD, ty_array, ty_fn, ty_group, ty_impl, ty_infer, ty_macro, ty_never, ty_paren, ty_path, ty_pointer, ty_reference, ty_slice, ty_object, ty_tuple, ty_verbatim, PathD, path, SegmentD, segment, ArgumentsD, no_arguments, angle, parens, GenericD, arg_lifetime, arg_ty, arg_const, arg_assoc_ty, arg_assoc_const, arg_constraint, QSelfD, qself, ExprD, ex_binary, ex_call, ex_cast, ex_field, ex_index, ex_fixed, ex_paren, ex_path, ex_unary, ex_verbatim, ExprPathD, expr_path, BoundD, bound_trait, bound_lifetime, MaybeTy, no_ty, some_ty, MaybeQSelf, no_qself, some_qself, Tys, end_tys, more_tys, Bounds, end_bounds, more_bounds, Segments, end_segments, more_segments, Generics, end_generics, more_generics, Exprs, end_exprs, more_exprs, bounds_of}
 use Rattle.syntax_trees.specs.Item.{PredicateD, predicate_ty, predicate_lifetime}
-use Rattle.syntax_printing.specs.Print.{sign, keyword, colons, arrow, within_parens, within_brackets, print_name, print_lifetime, print_maybe_lifetime, print_member, when, is_one, position, print_ty, print_output, print_tys, print_bound, print_bounds, print_qself, print_front, print_path, print_behind, print_expr_path, print_segments, print_segment, print_arguments, print_generics, print_generic, print_expr, print_exprs}
+use Rattle.syntax_printing.specs.Print.{sign, keyword, colons, arrow, within_parens, within_brackets, print_name, print_lifetime, print_maybe_lifetime, print_member, when, any_ty, position, print_ty, print_output, print_tys, print_bound, print_bounds, print_qself, print_front, print_path, print_behind, print_expr_path, print_segments, print_segment, print_arguments, print_generics, print_generic, print_expr, print_exprs}
 use Rattle.syntax_printing.specs.PrintPredicates.{print_lifetimes, print_predicate, print_predicates}
 use Rattle.syntax_laws.specs.RoundTrip.{AreOfText}
 use Rattle.printing_laws.specs.Parts.{MaybeLifetimeParts, TyParts, OutputParts, TysParts, BoundParts, BoundsParts, FrontParts, QSelfParts, PathParts, SegmentsParts, SegmentParts, ArgumentsParts, GenericsParts, GenericParts, ExprPathParts, ExprParts, ExprsParts, LifetimesParts, PredicateParts, PredicatesParts}
@@ -44,7 +44,7 @@ mutual
       before (sign 38) (print_maybe_lifetime l ++ words ++ print_ty t) ampersand (join (print_maybe_lifetime l ++ words) (print_ty t) (join (print_maybe_lifetime l) words (maybe_lifetime l h.0) (when_written m (keyword (codes "mut") ∷ []) mut_written)) (ty t h.1))
   ty (ty_slice t) h = brackets_written (print_ty t) (ty t h)
   ty (ty_object bs) h = before (keyword (codes "dyn")) (print_bounds false bs) dyn_written (bounds false bs h)
-  ty (ty_tuple is) h = parens_written (print_tys false is ++ when (is_one is) (sign 44 ∷ [])) (join (print_tys false is) (when (is_one is) (sign 44 ∷ [])) (tys false is h) (when_written (is_one is) (sign 44 ∷ []) comma))
+  ty (ty_tuple is) h = parens_written (print_tys false is ++ when (any_ty is) (sign 44 ∷ [])) (join (print_tys false is) (when (any_ty is) (sign 44 ∷ [])) (tys false is h) (when_written (any_ty is) (sign 44 ∷ []) comma))
   ty (ty_verbatim m) h = h
 
   output : (o : MaybeTy) → OutputParts o → AreOfText (print_output o)

@@ -1,24 +1,20 @@
 -- Tokens one after another, and how many there are.
-use Rattle.std.proofs.Common.{◌≡◌, ◌<◌, ℕ, suc, List, [], ◌∷◌, ◌++◌, length, map, refl, sym, ◌∙◌, append_assoc, nat_eq, false, arith, codes}
+use Rattle.std.proofs.Common.{◌≡◌, ◌<◌, ℕ, suc, List, [], ◌∷◌, ◌++◌, length, map, false, not, refl, sym, ap, ◌∙◌, append_assoc, nat_eq, arith, codes}
 use Rattle.std.proofs.lemmas.Bool.{ne_eqb}
 use Rattle.token_trees.specs.Token.{Tok}
 use Rattle.syntax_trees.specs.Syntax.{TyD, BoundD, tys_of, bounds_of}
 use Rattle.syntax_trees.specs.Item.{ParamD, PredicateD}
-use Rattle.syntax_printing.specs.Print.{is_one, sign, keyword, print_bounds}
+use Rattle.syntax_printing.specs.Print.{any_ty, sign, keyword, print_bounds}
 use Rattle.syntax_printing.specs.PrintPredicates.{print_predicates}
 use Rattle.rust_syntax.specs.PrintItem.{print_bounded, print_params, print_angle, print_where}
 
 pub assoc : {A : Type 0} → (xs ys zs : List A) → (xs ++ ys) ++ zs ≡ xs ++ (ys ++ zs)
 assoc xs ys zs = append_assoc xs ys zs
 
-two_is_not_one : (n : ℕ) → false ≡ nat_eq (suc (suc n)) 1
-two_is_not_one n = sym (ne_eqb (suc (suc n)) 1 (λ e. omega (arith, e)))
-
--- whether a tuple has one element
-pub is_one_length : {X : Type 0} → (f : X → TyD) (ts : List X) → is_one (tys_of (map f ts)) ≡ nat_eq (length ts) 1
-is_one_length f [] = refl
-is_one_length f (t ∷ []) = refl
-is_one_length f (t ∷ u ∷ us) = two_is_not_one (length us)
+-- whether a tuple has an element
+pub any_ty_length : {X : Type 0} → (f : X → TyD) (ts : List X) → any_ty (tys_of (map f ts)) ≡ not (nat_eq (length ts) 0)
+any_ty_length f [] = refl
+any_ty_length f (t ∷ ts) = sym (ap not (ne_eqb (suc (length ts)) 0 (λ e. omega (arith, e))))
 
 -- lists that print nothing where they are empty
 pub bounded_nil : {X : Type 0} → (f : X → BoundD) (bs : List X) → length bs ≡ 0 → print_bounded (map f bs) ≡ []

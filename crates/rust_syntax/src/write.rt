@@ -281,13 +281,13 @@ fn write_reference(
 }
 
 #[cycle(write)]
-#[tactic(auto, using(crate::proofs::Pieces::assoc, crate::proofs::Pieces::is_one_length))]
+#[tactic(auto, using(crate::proofs::Pieces::assoc, crate::proofs::Pieces::any_ty_length))]
 fn write_tuple(elems: &[Ty], out: &mut TokenStream) -> Result<(), AllocError>
     ensures { OnOk result (stream out.new ≡ stream out.old ++ print_ty (ty_tuple (tys_of (map ty elems.now)))) }
 {
     let mut inner = TokenStream::new(out.allocator());
     write_tys(elems, &mut inner)?;
-    write_separator(&mut inner, elems.len() == 1, ',')?;
+    write_separator(&mut inner, !elems.is_empty(), ',')?;
     out.push_group(Delimiter::Parenthesis, inner)
 }
 

@@ -10,7 +10,7 @@ use Rattle.token_trees.specs.declared.token.Spacing.TheVariants.{Joint}
 use Rattle.token_trees.specs.declared.token.Delimiter.{Delimiter}
 use Rattle.token_trees.specs.declared.token.Delimiter.TheVariants.{Parenthesis, Bracket}
 use Rattle.token_trees.specs.Token.{Tok, word, mark, fixed, group, Toks, list_of, Name}
-use Rattle.syntax_printing.specs.Print.{is_one, position}
+use Rattle.syntax_printing.specs.Print.{position}
 use Rattle.syntax_trees.specs.Syntax.{LifetimeD, TyD, ty_array, ty_fn, ty_group, ty_impl, ty_infer, ty_macro, ty_never, ty_paren, ty_path, ty_pointer, ty_reference, ty_slice, ty_object, ty_tuple, ty_verbatim, PathD, path, SegmentD, segment, ArgumentsD, no_arguments, angle, parens, GenericD, arg_lifetime, arg_ty, arg_const, arg_assoc_ty, arg_assoc_const, arg_constraint, QSelfD, qself, ExprD, ex_binary, ex_call, ex_cast, ex_field, ex_index, ex_fixed, ex_paren, ex_path, ex_unary, ex_verbatim, ExprPathD, expr_path, BoundD, bound_trait, bound_lifetime, MaybeTy, no_ty, some_ty, MaybeQSelf, no_qself, some_qself, Tys, end_tys, more_tys, Bounds, end_bounds, more_bounds, Segments, end_segments, more_segments, Generics, end_generics, more_generics}
 
 abbrev pub SignThen : ℕ → List Tok → List Tok → Type 0
@@ -54,6 +54,12 @@ CloseThen true ts rest = SignThen 62 ts rest
 abbrev pub LastComma : Bool → List Tok → Type 0
 LastComma false ts = ts ≡ []
 LastComma true ts = SignThen 44 ts []
+
+-- A tuple of one has its comma.
+abbrev pub is_one : Tys → Bool
+is_one end_tys = false
+is_one (more_tys t end_tys) = true
+is_one (more_tys t (more_tys u us)) = false
 
 -- Whether a printing ends in the bounds of a trait object or an `impl`. Of segments, `was` says it of the one before.
 abbrev mutual

@@ -52,10 +52,9 @@ abbrev pub when : Bool → List Tok → List Tok
 when true ts = ts
 when false ts = []
 
-abbrev pub is_one : Tys → Bool
-is_one end_tys = false
-is_one (more_tys t end_tys) = true
-is_one (more_tys t (more_tys u us)) = false
+abbrev pub any_ty : Tys → Bool
+any_ty end_tys = false
+any_ty (more_tys t ts) = true
 
 -- how many segments lie before the `>`
 abbrev pub position : MaybeQSelf → ℕ
@@ -78,7 +77,7 @@ abbrev mutual
   print_ty (ty_reference l m t) = sign 38 ∷ print_maybe_lifetime l ++ when m (keyword (codes "mut") ∷ []) ++ print_ty t
   print_ty (ty_slice t) = within_brackets (print_ty t) ∷ []
   print_ty (ty_object bs) = keyword (codes "dyn") ∷ print_bounds false bs
-  print_ty (ty_tuple ts) = within_parens (print_tys false ts ++ when (is_one ts) (sign 44 ∷ [])) ∷ []
+  print_ty (ty_tuple ts) = within_parens (print_tys false ts ++ when (any_ty ts) (sign 44 ∷ [])) ∷ []
   print_ty (ty_verbatim s) = s
 
   pub print_output : MaybeTy → List Tok

@@ -9,10 +9,9 @@ use Rattle.token_trees.specs.declared.token.Delimiter.{Delimiter}
 use Rattle.token_trees.specs.declared.token.Delimiter.TheVariants.{Parenthesis, Bracket, Brace}
 use Rattle.token_trees.specs.Token.{Tok, word, mark, fixed, group, Toks, no_toks, tok, list_of, Fixed, Name, placed, all_placed, site}
 use Rattle.syntax_trees.specs.Syntax.{LifetimeD, TyD, ty_array, ty_fn, ty_group, ty_impl, ty_infer, ty_macro, ty_never, ty_paren, ty_path, ty_pointer, ty_reference, ty_slice, ty_object, ty_tuple, ty_verbatim, PathD, path, SegmentD, segment, ArgumentsD, no_arguments, angle, parens, GenericD, arg_lifetime, arg_ty, arg_const, arg_assoc_ty, arg_assoc_const, arg_constraint, qself, ExprD, ex_binary, ex_call, ex_cast, ex_field, ex_index, ex_fixed, ex_paren, ex_path, ex_unary, ex_verbatim, ExprPathD, expr_path, BoundD, bound_trait, bound_lifetime, MaybeTy, no_ty, some_ty, no_qself, some_qself, Tys, end_tys, more_tys, Bounds, end_bounds, more_bounds, Segments, end_segments, more_segments, Generics, end_generics, more_generics}
-use Rattle.syntax_printing.specs.Print.{is_one}
 use Rattle.syntax_parsers.specs.Fronts.{is_reserved}
 use Rattle.syntax_parsers.specs.Grammar.{gives_segment, gives_last, gives_path}
-use Rattle.syntax_parsers.specs.Spelling.{SignThen, PairThen, WordThen, NameThen, LifetimeThen, GroupThen, MaybeLifetimeThen, MutThen, ColonsThen, CloseThen, LastComma, ends_ty, ends_output, ends_path, ends_segments, ends_segment, ends_arguments, ends_bound, TyThen, OutputThen, TysThen, TysBehind, BoundThen, BoundsThen, BoundsBehind, PathThen, SegmentsThen, SegmentThen, ArgumentsThen, GenericsThen, GenericsBehind, GenericThen, ExprThen, ExprPathThen}
+use Rattle.syntax_parsers.specs.Spelling.{is_one, SignThen, PairThen, WordThen, NameThen, LifetimeThen, GroupThen, MaybeLifetimeThen, MutThen, ColonsThen, CloseThen, LastComma, ends_ty, ends_output, ends_path, ends_segments, ends_segment, ends_arguments, ends_bound, TyThen, OutputThen, TysThen, TysBehind, BoundThen, BoundsThen, BoundsBehind, PathThen, SegmentsThen, SegmentThen, ArgumentsThen, GenericsThen, GenericsBehind, GenericThen, ExprThen, ExprPathThen}
 use Rattle.syntax_parsers.specs.SpellingForm.{has_bounds, segments_count, is_last, IsGroup, IsConstant, TyForm, OutputForm, TysForm, BoundForm, BoundsForm, PathForm, SegmentsForm, SegmentForm, ArgumentsForm, GenericsForm, GenericForm, LengthForm, ExprPathForm, IsNoLiteral, IsNoPath, TyLengths, OutputLengths, TysLengths, BoundLengths, BoundsLengths, PathLengths, SegmentsLengths, SegmentLengths, ArgumentsLengths, GenericsLengths, GenericLengths, LengthHeld, ExprPathLengths, IsParsedTy, IsParsedBounds, SpellsTy, SpellsPath, SpellsExprPath, SpellsBounds}
 use Rattle.syntax_parsers.specs.SpellingAside.{name_at, lifetime_at, maybe_lifetime_at, output_at, tys_at, bound_at, bounds_at, path_at, segments_at, segment_at, arguments_at, generics_at, generic_at, expr_at, expr_path_at, SameToks, SameTy, SamePath, SameExprPath, SameBounds}
 use Rattle.syntax_parsers.proofs.spelling.Reach.{tys_count}

@@ -1,5 +1,5 @@
 -- The tokens that a tree is printed as are a printing of it.
-use Rattle.std.proofs.Common.{◌≡◌, ℕ, ◌-◌, List, [], ◌∷◌, ◌++◌, Bool, true, false, Option, Some, None, cond, refl, ap, sym, ◌∙◌, inl, codes, append_assoc}
+use Rattle.std.proofs.Common.{◌≡◌, ℕ, ◌-◌, List, [], ◌∷◌, ◌++◌, Bool, true, false, Option, Some, None, cond, refl, ap, sym, ◌∙◌, inl, codes, append_assoc, true≢false}
 use Rattle.std.specs.Prelude.{nat_eq}
 use Rattle.std.proofs.lemmas.List.{append-nil}
 use Rattle.token_trees.specs.declared.token.Spacing.TheVariants.{Alone}
@@ -7,8 +7,8 @@ use Rattle.token_trees.specs.declared.token.Delimiter.TheVariants.{Parenthesis}
 use Rattle.token_trees.specs.Token.{Tok, group, toks_of, list_of, site}
 use Rattle.token_trees.proofs.Lists.{list_of_toks_of}
 use Rattle.syntax_trees.specs.Syntax.{LifetimeD, TyD, ty_array, ty_fn, ty_group, ty_impl, ty_infer, ty_macro, ty_never, ty_paren, ty_path, ty_pointer, ty_reference, ty_slice, ty_object, ty_tuple, ty_verbatim, PathD, path, SegmentD, segment, ArgumentsD, no_arguments, angle, parens, GenericD, arg_lifetime, arg_ty, arg_const, arg_assoc_ty, arg_assoc_const, arg_constraint, QSelfD, qself, ExprD, ex_binary, ex_call, ex_cast, ex_field, ex_index, ex_fixed, ex_paren, ex_path, ex_unary, ex_verbatim, ExprPathD, expr_path, BoundD, bound_trait, bound_lifetime, MaybeTy, no_ty, some_ty, MaybeQSelf, no_qself, some_qself, Tys, end_tys, more_tys, Bounds, end_bounds, more_bounds, Segments, end_segments, more_segments, Generics, end_generics, more_generics}
-use Rattle.syntax_printing.specs.Print.{sign, keyword, colons, print_maybe_lifetime, when, is_one, position, print_ty, print_output, print_tys, print_bound, print_bounds, print_qself, print_front, print_path, print_behind, print_expr_path, print_segments, print_segment, print_arguments, print_generics, print_generic, print_expr}
-use Rattle.syntax_parsers.specs.Spelling.{SignThen, WordThen, MaybeLifetimeThen, MutThen, ColonsThen, CloseThen, ends_bound, TyThen, OutputThen, TysThen, TysBehind, BoundThen, BoundsThen, BoundsBehind, QSelfThen, FrontThen, PathThen, BehindThen, SegmentsThen, SegmentThen, ArgumentsThen, GenericsThen, GenericsBehind, GenericThen, ExprThen, ExprPathThen}
+use Rattle.syntax_printing.specs.Print.{sign, keyword, colons, print_maybe_lifetime, when, any_ty, position, print_ty, print_output, print_tys, print_bound, print_bounds, print_qself, print_front, print_path, print_behind, print_expr_path, print_segments, print_segment, print_arguments, print_generics, print_generic, print_expr}
+use Rattle.syntax_parsers.specs.Spelling.{is_one, SignThen, WordThen, MaybeLifetimeThen, MutThen, ColonsThen, CloseThen, ends_bound, TyThen, OutputThen, TysThen, TysBehind, BoundThen, BoundsThen, BoundsBehind, QSelfThen, FrontThen, PathThen, BehindThen, SegmentsThen, SegmentThen, ArgumentsThen, GenericsThen, GenericsBehind, GenericThen, ExprThen, ExprPathThen}
 use Rattle.syntax_parsers.specs.SpellingForm.{IsConstant, TyForm, OutputForm, TysForm, BoundForm, BoundsForm, FrontForm, PathForm, BehindForm, SegmentsForm, SegmentForm, ArgumentsForm, GenericsForm, GenericForm, LengthForm, ExprPathForm}
 
 lifetime_printed : (l : Option LifetimeD) (ts rest : List Tok) → ts ≡ print_maybe_lifetime l ++ rest → MaybeLifetimeThen l ts rest
@@ -43,6 +43,11 @@ constant_printed (ex_path p) ts rest f h = absurd f
 constant_printed (ex_unary o e) ts rest f h = absurd f
 constant_printed (ex_verbatim m) ts rest f h = h
 
+-- a tuple of one has a comma
+one_is_there : (is : Tys) → is_one is ≡ true → any_ty is ≡ true
+one_is_there end_tys h = absurd (true≢false (sym h))
+one_is_there (more_tys t is) h = refl
+
 four : (a b c d rest : List Tok) → (a ++ b ++ c ++ d) ++ rest ≡ a ++ (b ++ (c ++ (d ++ rest)))
 four a b c d rest = simp append_assoc
 
@@ -72,8 +77,8 @@ mutual
   ty_printed (ty_slice t) ts rest f h = (toks_of (print_ty t), (site, h), ty_printed t (list_of (toks_of (print_ty t))) [] f (list_of_toks_of (print_ty t) ∙ sym (append-nil (print_ty t))))
   ty_printed (ty_object bs) ts rest f h = (print_bounds false bs ++ rest, (site, h), bounds_printed bs (print_bounds false bs ++ rest) rest f.1 refl)
   ty_printed (ty_tuple is) ts rest f h =
-      let x = print_tys false is ++ when (is_one is) (sign 44 ∷ []) in
-      (toks_of x, is_one is, (site, h), tys_printed is (is_one is) (list_of (toks_of x)) f (λ q. ap is_one q) (list_of_toks_of x), λ q. q)
+      let x = print_tys false is ++ when (any_ty is) (sign 44 ∷ []) in
+      (toks_of x, any_ty is, (site, h), tys_printed is (any_ty is) (list_of (toks_of x)) f (λ q. ap any_ty q) (list_of_toks_of x), one_is_there is)
   ty_printed (ty_verbatim m) ts rest f h = absurd f
 
   output_printed : (o : MaybeTy) (ts rest : List Tok) → OutputForm o → ts ≡ print_output o ++ rest → OutputThen o ts rest

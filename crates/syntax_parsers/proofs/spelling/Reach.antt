@@ -9,7 +9,6 @@ use Rattle.token_trees.specs.declared.token.Spacing.TheVariants.{Joint}
 use Rattle.token_trees.specs.declared.token.Delimiter.TheVariants.{Parenthesis}
 use Rattle.token_trees.specs.Token.{Tok, word, mark, fixed, group, Toks, Name, list_of}
 use Rattle.syntax_trees.specs.Syntax.{LifetimeD, TyD, ty_array, ty_fn, ty_group, ty_impl, ty_infer, ty_macro, ty_never, ty_paren, ty_path, ty_pointer, ty_reference, ty_slice, ty_object, ty_tuple, ty_verbatim, PathD, path, SegmentD, segment, ArgumentsD, no_arguments, angle, parens, GenericD, arg_lifetime, arg_ty, arg_const, arg_assoc_ty, arg_assoc_const, arg_constraint, qself, ExprD, ex_binary, ex_call, ex_cast, ex_field, ex_index, ex_fixed, ex_paren, ex_path, ex_unary, ex_verbatim, ExprPathD, expr_path, BoundD, bound_trait, bound_lifetime, MaybeTy, no_ty, some_ty, no_qself, some_qself, Tys, end_tys, more_tys, Bounds, end_bounds, more_bounds, Segments, end_segments, more_segments, Generics, end_generics, more_generics, tys_of, bounds_of, segments_of, generics_of}
-use Rattle.syntax_printing.specs.Print.{is_one}
 use Rattle.syntax_trees.specs.Metas.{sign_next}
 use Rattle.syntax_trees.specs.declared.cursor.SyntaxKind.TheVariants.{ExpectedIdent, ExpectedGt}
 use Rattle.syntax_trees.specs.declared.cursor.SyntaxError.{SyntaxError}
@@ -17,7 +16,7 @@ use Rattle.syntax_parsers.specs.Answer.{◌>>=◌}
 use Rattle.syntax_parsers.specs.Fronts.{weight, sign_front, colons_front, arrow_front, keyword_front, name_front, group_front, tree_front, lifetime_front, segment_front, bound_next, path_next, further_front, colon_front, angle_front, labelled, is_parens}
 use Rattle.syntax_parsers.specs.Grammar.{Read, Readers, choose, required, whole, output_body, path_body, trait_body, behind_body, qualified_body, expr_path_body, other_length, length_body, bracketed_body, parenthesised, mut_front, maybe_lifetime_front, reference_body, pointer_body, signature_body, function_body, some_bounds, path_ty, ty_body, tys_body, bound_body, bounds_body, arguments_body, segment_body, segments_body, constant_front, generic_body, generics_body, gives_segment, gives_last, gives_path}
 use Rattle.syntax_parsers.specs.Read.{stuck, level, levels}
-use Rattle.syntax_parsers.specs.Spelling.{SignThen, PairThen, WordThen, GroupThen, MaybeLifetimeThen, MutThen, CloseThen, LastComma, ends_ty, ends_output, ends_path, ends_segments, ends_segment, ends_arguments, ends_bound, TyThen, OutputThen, TysThen, BoundThen, BoundsThen, BoundsBehind, PathThen, SegmentsThen, SegmentThen, ArgumentsThen, GenericsThen, GenericThen, ExprThen, ExprPathThen}
+use Rattle.syntax_parsers.specs.Spelling.{is_one, SignThen, PairThen, WordThen, GroupThen, MaybeLifetimeThen, MutThen, CloseThen, LastComma, ends_ty, ends_output, ends_path, ends_segments, ends_segment, ends_arguments, ends_bound, TyThen, OutputThen, TysThen, BoundThen, BoundsThen, BoundsBehind, PathThen, SegmentsThen, SegmentThen, ArgumentsThen, GenericsThen, GenericThen, ExprThen, ExprPathThen}
 use Rattle.syntax_parsers.specs.SpellingForm.{has_bounds, segments_count, IsGroup, IsConstant, TyForm, OutputForm, TysForm, BoundForm, BoundsForm, QSelfForm, PathForm, SegmentsForm, SegmentForm, ArgumentsForm, GenericsForm, GenericForm, LengthForm, ExprPathForm, IsNoLiteral, TyLengths, OutputLengths, TysLengths, BoundLengths, BoundsLengths, PathLengths, SegmentsLengths, SegmentLengths, ArgumentsLengths, GenericsLengths, GenericLengths, LengthHeld, ExprPathLengths}
 use Rattle.syntax_parsers.proofs.Results.{ok_same}
 use Rattle.syntax_parsers.proofs.spelling.Stands.{whole_ok}
