@@ -230,9 +230,10 @@ pub record IsBetween (es : Names) (n : List ℕ) (low high : ℕ) : Type 0 where
   pub before : (j : ℕ) → j < low → comes_before (name_at es j) n ≡ true
   pub after : (j : ℕ) → high ≤ j → j < length es → comes_before n (name_at es j) ≡ true
 
--- so many steps were taken, with that much left of the names
+-- so many steps were taken, with that much left of the names; less is left only where one was counted
 pub record IsCheap (all old now left : ℕ) : Type 0 where
   pub rising : old ≤ now
+  pub counted : left < all → old < now
   pub halved : 2 ^ (now - old) * left ≤ all
   pub so_far : 2 ^ (now - old) ≤ 2 * all + 1
 
@@ -265,14 +266,14 @@ pub is_gap : (es : Names) (n : List ℕ) (low high : ℕ) → IsBetween es n low
 is_gap es n low high h le = record { in_range = omega (arith, h.in_range, h.ordered); before = h.before; after = λ j g long. h.after j (omega arith) long }
 
 pub begins : (all now : ℕ) → IsCheap all now now all
-begins all now = record { rising = omega arith; halved = rw (one now) (omega arith); so_far = rw (one now) (omega arith) }
+begins all now = record { rising = omega arith; counted = λ h. absurd (omega (arith, h)); halved = rw (one now) (omega arith); so_far = rw (one now) (omega arith) }
   where
     one : (n : ℕ) → 2 ^ (n - n) ≡ 1
     one n = let e : n - n ≡ 0 = omega arith in ap (λ k. 2 ^ k) e
 
 -- one more step, after which at most half is left
 pub one_more : (all old now left less : ℕ) → IsCheap all old now left → 2 * less ≤ left → 0 < left → IsCheap all old (now + 1) less
-one_more all old now left less h half some = record { rising = omega (arith, h.rising); halved = halved; so_far = so_far }
+one_more all old now left less h half some = record { rising = omega (arith, h.rising); counted = λ l. omega (arith, h.rising); halved = halved; so_far = so_far }
   where
     doubled : 2 ^ (now + 1 - old) ≡ 2 ^ (now - old) * 2
     doubled = let e : now + 1 - old ≡ suc (now - old) = omega (arith, h.rising) in ap (λ k. 2 ^ k) e ∙ pow-suc 2 (now - old)

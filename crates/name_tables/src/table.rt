@@ -50,10 +50,11 @@ impl NameTable {
     }
 
     /// The place of the name, or none exactly where the name isn't there. For n names it takes k comparisons, with
-    /// 2^k at most 4n + 2, and no memory.
+    /// 2^k at most 4n + 2, at least one where there are names, and no memory.
     pub fn find<L: StepLedger>(&self, name: &str, steps: &mut Steps<L>) -> Option<u32>
         ensures answer { result ≡ place_of name.now self.now }
         ensures counts { steps.old ≤ steps.new }
+        ensures counted { 0 < length self.now → steps.old < steps.new }
         ensures cost { 2 ^ (steps.new - steps.old) ≤ 4 * length self.now + 2 }
     {
         match search(&self.names, name.as_bytes(), steps) {
@@ -83,6 +84,7 @@ fn search<L: StepLedger>(
     ensures found { IfOk result (IsAt names.now name.now) }
     ensures absent { IfErr result (IsGapFor names.now name.now) }
     ensures counts { steps.old ≤ steps.new }
+    ensures counted { 0 < length names.now → steps.old < steps.new }
     ensures cost { 2 ^ (steps.new - steps.old) ≤ 2 * length names.now + 1 }
 {
     let mut low = 0;

@@ -164,7 +164,7 @@ module _ {J : Type 0} where
   left_over f p ms true = refl
   left_over f p ms false = twice p (λ m. not (belongs f m)) ms
 
-  own_are_found : (fs : List FieldModel) (ms : List (MemberPart J)) (i : ℕ) → own_at i fs ms ≡ members_at i (field_names 0 fs) ms
+  pub own_are_found : (fs : List FieldModel) (ms : List (MemberPart J)) (i : ℕ) → own_at i fs ms ≡ members_at i (field_names 0 fs) ms
   own_are_found [] ms i = sym (none_filtered ms)
   own_are_found (f ∷ fs) ms zero = by f.is_rest ∙ filtered (λ m. cond f.is_rest false (belongs f m)) (λ m. is_place 0 (place_of m.name (field_names 0 (f ∷ fs)))) (λ m. first_place f.is_rest (belongs f m) (place_of m.name (field_names 0 fs)) ∙ ap (is_place 0) (sym (place_further f fs m.name))) ms
     where
@@ -180,7 +180,7 @@ module _ {J : Type 0} where
   unnamed_turn f fs ms true = refl
   unnamed_turn f fs ms false = refl
 
-  unnamed_are_found : (fs : List FieldModel) (ms : List (MemberPart J)) → unnamed_members fs ms ≡ members_without_place (field_names 0 fs) ms
+  pub unnamed_are_found : (fs : List FieldModel) (ms : List (MemberPart J)) → unnamed_members fs ms ≡ members_without_place (field_names 0 fs) ms
   unnamed_are_found [] ms = all_filtered ms
   unnamed_are_found (f ∷ fs) ms =
       unnamed_turn f fs ms f.is_rest

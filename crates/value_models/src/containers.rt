@@ -1,5 +1,5 @@
 //! Containers in order, with the table of their names.
-ghost use Rattle.std.specs.Prelude.{◌≡◌, [], IfOk, option_map};
+ghost use Rattle.std.specs.Prelude.{◌≡◌, ◌<◌, ◌^◌, [], IfOk, length, option_map};
 ghost use Rattle.name_tables.specs.Names.{all_entered, place_of};
 ghost use Rattle.model_defs.specs.Model.{container_named};
 ghost use Rattle.value_models.specs.ContainerView.{container_view, containers_view};
@@ -25,6 +25,14 @@ impl Containers {
     {
         let names = names_of(alloc, &containers)?;
         Ok(Containers { containers, names })
+    }
+
+    /// How many containers there are.
+    pub fn count(&self) -> usize
+        ensures count { result ≡ length (containers_view self.now.containers.items) }
+        ensures small { result < 2 ^ 63 }
+    {
+        self.containers.len()
     }
 
     // The place of the first container of that name.
