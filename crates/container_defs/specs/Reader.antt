@@ -1,6 +1,5 @@
 -- What the reader of values makes of a container: names, types, representation, and what it does where members are missing.
 use Rattle.std.specs.Prelude.{ℕ, ◌&&◌, List, [], ◌∷◌, map, Bool, true, false, Option, Some, None, option_map, is_some, bytes_eq, nat_eq, codes, if◌then◌else◌}
-use Rattle.std.specs.Fmt.{decimal}
 use Rattle.std.specs.List.{filter_map}
 use Rattle.token_trees.specs.Token.{Name}
 use Rattle.syntax_trees.specs.Syntax.{MemberD, named, unnamed, ExprPathD, expr_path, no_qself, path, Segments, end_segments, more_segments, has_no_arguments, segment_name}
@@ -10,6 +9,7 @@ use Rattle.attr_parts.specs.Names.{MultiNameD}
 use Rattle.attr_parts.specs.Values.{DefaultD, no_default, own_default, path_default, TagD, external, internal, adjacent, untagged}
 use Rattle.attr_defs.specs.Renames.{Meaning}
 use Rattle.attr_defs.specs.Texts.{Lexing}
+use Rattle.schema_defs.specs.Location.{place}
 use Rattle.model_defs.specs.Types.{type_of, spells, number_of}
 use Rattle.model_defs.specs.Model as model
 use Rattle.model_defs.specs.Model.{struct_style, tuple_style, newtype_style, unit_style, DefaultModel, stated_default, HelperModel, no_helper, some_helper, whole_helper, FieldModel, VariantModel, TagModel, external_tag, internal_tag, adjacent_tag, BodyModel, struct_model, enum_model, ContainerModel}
@@ -44,7 +44,7 @@ helper_of (Some p) = if reads_some p then some_helper else if reads_whole p then
 -- the number of `typify_defaults::d<n>`, written without zeros in front
 abbrev pub written_so : List ℕ → Option ℕ → Option ℕ
 written_so ds None = None
-written_so ds (Some n) = if bytes_eq (decimal n) ds then Some n else None
+written_so ds (Some n) = if bytes_eq (place n) ds then Some n else None
 
 abbrev pub place_named : List ℕ → Option ℕ
 place_named [] = None

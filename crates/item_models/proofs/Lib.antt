@@ -1,3 +1,4 @@
 pub mod KnownPaths
+pub mod Digits
 pub mod Places
 pub mod Lists

@@ -1,12 +1,13 @@
 //! What a field gets where it is missing.
-ghost use Rattle.std.specs.Prelude.{◌≡◌, ℕ, ◌&&◌, Option, Some, bytes_eq, codes, map, option_map, IfOk};
-ghost use Rattle.std.specs.Fmt.{decimal};
+ghost use Rattle.std.specs.Prelude.{◌≡◌, ℕ, ◌&&◌, Option, Some, true, is_some, bytes_eq, codes, map, option_map, IfOk};
+ghost use Rattle.schema_defs.specs.Location.{place};
 ghost use Rattle.syntax_trees.specs.Syntax.{segments_of, end_segments, more_segments, has_no_arguments, segment_name};
 ghost use Rattle.syntax_trees.specs.View.{expr_path_view, segment_view};
 ghost use Rattle.attr_parts.specs.Values as attrs;
 ghost use Rattle.container_defs.specs.Reader.{default_place, default_model, default_at, place_in, place_named, written_so};
 ghost use Rattle.value_models.specs.FieldView.{default_view};
 ghost use Rattle.model_defs.specs.Types.{number_of};
+ghost use Rattle.value_types.specs.Large.{IsTooLarge};
 ghost use Rattle.item_models.specs.Places.{placed};
 ghost use Rattle.item_models.specs.PlaceView.{IsPlace};
 
@@ -98,8 +99,9 @@ fn place_digits(path: &ExprPath) -> Option<&[u8]>
 }
 
 // Whether the digits are those that are written for the number.
+#[tactic(auto, using(crate::proofs::Places::place_written))]
 fn is_written(alloc: Global, number: u64, digits: &[u8]) -> Result<bool, AllocError>
-    ensures { IfOk result (λ b. b ≡ bytes_eq (decimal number) digits.now) }
+    ensures { IfOk result (λ b. b ≡ bytes_eq (place number) digits.now) }
 {
     let text = format!(in alloc; "{number}")?;
     Ok(text.as_bytes() == digits)
@@ -124,6 +126,22 @@ fn place_at(alloc: Global, number: u64, digits: &[u8]) -> Result<Place, AllocErr
     Ok(Place::Nowhere)
 }
 
+// The place that digits write past a u64's end: none where a zero is in front.
+#[tactic(auto, using(crate::proofs::Places::empty_past))]
+fn far_place(digits: &[u8]) -> Place
+    requires number { is_some (number_of digits.now) ≡ true }
+    requires large { IsTooLarge (number_of digits.now) }
+    ensures { IsPlace (written_so digits.now (number_of digits.now)) result }
+{
+    let Some((first, _)) = digits.split_first() else {
+        return Place::Nowhere;
+    };
+    if *first == b'0' {
+        return Place::Nowhere;
+    }
+    Place::Far
+}
+
 fn place_written(alloc: Global, digits: &[u8]) -> Result<Place, AllocError>
     ensures { IfOk result (λ p. IsPlace (written_so digits.now (number_of digits.now)) p) }
 {
@@ -135,7 +153,7 @@ fn place_written(alloc: Global, digits: &[u8]) -> Result<Place, AllocError>
             let place = place_at(alloc, number, digits)?;
             Ok(place)
         }
-        None => Ok(Place::Far),
+        None => Ok(far_place(digits)),
     }
 }
 

@@ -5,11 +5,12 @@ use Rattle.syntax_parsers.specs.Grammar.{expr_path_body, path_body, segments_bod
 use Rattle.syntax_parsers.specs.Read.{levels}
 use Rattle.syntax_parsers.specs.Where.{some_predicates, predicates_body}
 use Rattle.syntax_parsers.specs.Whole.{expr_path_of, predicates_of}
+use Rattle.schema_defs.specs.Location.{place}
 use Rattle.model_defs.specs.Types.{word_type, path_of_one, path_of_two, plain_path}
 use Rattle.container_defs.proofs.examples.forms_of_fields.Goals as goal
 
 pub returns : goal.returns
-unfolding expr_path_of levels chars expr_path_body path_body segments_body segment_body arguments_body predicates_of some_predicates predicates_body word_type path_of_one digits path_of_two plain_path
+unfolding place expr_path_of levels chars expr_path_body path_body segments_body segment_body arguments_body predicates_of some_predicates predicates_body word_type path_of_one digits path_of_two plain_path
 returns c = record {
   getter = refl;
   bound = refl;
