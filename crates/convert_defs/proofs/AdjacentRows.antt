@@ -40,6 +40,7 @@ use Rattle.convert_defs.proofs.External.{names, keyed, required-within}
 use Rattle.convert_defs.proofs.Differ.{distinct-differ, head-alone}
 use Rattle.convert_defs.proofs.Contents.{content-judged}
 use Rattle.convert_defs.proofs.Adjacent.{named-once, adjacent-keeps, tag-value}
+use Rattle.convert_defs.proofs.Openness.{AllOpen, open-each, open-rest}
 use Rattle.convert_defs.proofs.Internal.{Told, AllTold, counted-told, text_in, tag_key, text-there, less-same}
 use Rattle.convert_defs.proofs.SameShapes.{whole, adjacent-found}
 
@@ -48,10 +49,6 @@ constant-there no_schema s h = none-some s h
 constant-there (the_schema u) s h = (u, refl, h)
 
 module _ (way : Way) (P : List ℕ → Type 0) (st : Setting) (R : Schema → Entry → Type 0) (conv : Part → Entry) (r : Relations) (fol : List ℕ → Bool) (tgt : Target → Bool) (v : Value) (ps : Parts) (es : model.Parts entry.Judge) (w : View way st R r v ps es) where
-  abbrev AllOpen : Bool → List ObjectShape → Type 0
-  AllOpen c [] = Unit {0}
-  AllOpen c (o ∷ os) = Keeps way (not o.closed) (not c) × AllOpen c os
-
   module _ (tag content : List ℕ) (closed : Bool) where
     abbrev inside : VariantRow → Bool
     inside x = (not closed || is_none (without content (without tag (members_in es)))) && beside_content closed (body_content conv (adjacent_tag tag content) closed x.body) (named content (members_in es))
@@ -371,7 +368,7 @@ module _ (way : Way) (P : List ℕ → Type 0) (st : Setting) (R : Schema → En
       Sound xs = AllParts (IsSound way P st R conv r fol tgt v ps es w) (variants_parts xs)
 
       all-told : (k : Step) (i : ℕ) (us : Schemas) (os : List ObjectShape) (ts : List (List ℕ)) → all_some object_shape (members_from k i us) ≡ Some os → all_some (constant_at tag) os ≡ Some ts → list_all (λ o. is_name tag o.required_names) os ≡ true → all_apart us ≡ true
-          → AllWithin os → AllRight os → AllOpen closed os → Sound (map (adjacent_variant tag) os) → AllTold way P st R conv r fol tgt v ps es w (tag_key tag v) inside us (map (adjacent_variant tag) os)
+          → AllWithin os → AllRight os → AllOpen way closed os → Sound (map (adjacent_variant tag) os) → AllTold way P st R conv r fol tgt v ps es w (tag_key tag v) inside us (map (adjacent_variant tag) os)
       all-told k i no_more os ts e f g a wi ri z q = subst (λ xs. AllTold way P st R conv r fol tgt v ps es w (tag_key tag v) inside no_more (map (adjacent_variant tag) xs)) (some-same [] os e) tt
       all-told k i (schema s ss) [] ts e f g a wi ri z q = let x = split-some object_shape (k ∷ place i ∷ [], s) (members_from k (suc i) ss) [] e in impossible (sym (ap (λ xs. elim xs [ [] ↦ false | y ∷ ys ↦ true ]) x.4))
       all-told k i (schema s ss) (o ∷ os) ts e f g a wi ri z q =
@@ -390,28 +387,6 @@ module _ (way : Way) (P : List ℕ → Type 0) (st : Setting) (R : Schema → En
           let a = ap words_or_none y.2 in
           let b = texts-are os y.1 y.3 in
           (λ i. a i ∷ b i) ∙ y.4
-
-  -- each branch is open or closed as the enum is
-  open-each : (c mixed : Bool) (os : List ObjectShape) → (same_way way narrowed ≡ true → (c && list_any (λ o. not o.closed) os) ≡ false) → (list_any (λ o. o.closed) os ≡ true → c ≡ true) → AllOpen c os
-  open-each c mixed [] f g = tt
-  open-each c mixed (o ∷ os) f g = (one way o.closed refl f, open-each c mixed os (λ z. rest c (f z)) (λ h. g (or-second o.closed (list_any (λ o. o.closed) os) h)))
-    where
-      or-second : (a b : Bool) → b ≡ true → (a || b) ≡ true
-      or-second true b h = refl
-      or-second false b h = h
-
-      rest : (c : Bool) → (c && (not o.closed || list_any (λ o. not o.closed) os)) ≡ false → (c && list_any (λ o. not o.closed) os) ≡ false
-      rest true h = or_right (not o.closed) _ h
-      rest false h = refl
-
-      one : (m : Way) (b : Bool) → o.closed ≡ b → (same_way m narrowed ≡ true → (c && (not o.closed || list_any (λ o. not o.closed) os)) ≡ false) → Keeps m (not o.closed) (not c)
-      one narrowed b e f = λ t. shut t c (f refl)
-        where
-          shut : not o.closed ≡ true → (c : Bool) → (c && (not o.closed || list_any (λ o. not o.closed) os)) ≡ false → not c ≡ true
-          shut t true h = absurd (true≢false (sym t ∙ or_left (not o.closed) _ h))
-          shut t false h = refl
-      one widened true e f = λ t. absurd (true≢false (sym t ∙ ap not (g (ap (λ b. b || list_any (λ o. o.closed) os) e))))
-      one widened false e f = λ t. ap not e
 
   -- ---- the two names
 
@@ -445,16 +420,12 @@ module _ (way : Way) (P : List ℕ → Type 0) (st : Setting) (R : Schema → En
   right-all tag content closed c [] h f g = tt
   right-all tag content closed c (o ∷ os) h f g = (
     (and_left _ _ h, (λ z n. shut z (g z (ap (λ b. b || list_any (has_tag_alone tag) os) (ap is_no_property n))))),
-    right-all tag content closed c os (and_right (are_all_required o) _ h) (λ z. rest c (f z)) (λ z k. g z (later (has_tag_alone tag o) (list_any (has_tag_alone tag) os) k)),
+    right-all tag content closed c os (and_right (are_all_required o) _ h) (λ z. open-rest c o os (f z)) (λ z k. g z (later (has_tag_alone tag o) (list_any (has_tag_alone tag) os) k)),
   )
     where
       later : (a b : Bool) → b ≡ true → (a || b) ≡ true
       later true b h = refl
       later false b h = h
-
-      rest : (c : Bool) → (c && (not o.closed || list_any (λ o. not o.closed) os)) ≡ false → (c && list_any (λ o. not o.closed) os) ≡ false
-      rest true h = or_right (not o.closed) _ h
-      rest false h = refl
 
       not-not : (b : Bool) → not b ≡ false → b ≡ true
       not-not true h = refl
@@ -483,7 +454,7 @@ module _ (way : Way) (P : List ℕ → Type 0) (st : Setting) (R : Schema → En
           let mix : same_way way narrowed ≡ true → (some_closed os && list_any (λ o. not o.closed) os) ≡ false = λ u. sym (ap (λ t. t.mixed) z) ∙ free-note way x.mixed (here narrowed mixed_branches_note) (free-left way (note_if x.mixed (here narrowed mixed_branches_note)) (note_if x.alone (here narrowed tag_alone_note)) c.0) u in
           let lone : same_way way narrowed ≡ true → (not (some_closed os) && list_any (has_tag_alone tag) os) ≡ false = λ u. sym (ap (λ t. t.alone) z) ∙ free-note way x.alone (here narrowed tag_alone_note) (free-right way (note_if x.mixed (here narrowed mixed_branches_note)) (note_if x.alone (here narrowed tag_alone_note)) c.0) u in
           let ri = right-all tag content closed (some_closed os) os u mix (λ z g. some (some_closed os) (list_any (has_tag_alone tag) os) g (lone z)) in
-          let told = all-told tag content closed p k 0 us os y.0 f y.1 y.3 a (within-all tag content closed os l) ri (open-each closed true os mix (λ g. g)) (subst (λ t. AllParts (IsSound way P st R conv r fol tgt v ps es w) (variants_parts t.variants)) z q) in
+          let told = all-told tag content closed p k 0 us os y.0 f y.1 y.3 a (within-all tag content closed os l) ri (open-each way closed os mix (λ g. g)) (subst (λ t. AllParts (IsSound way P st R conv r fol tgt v ps es w) (variants_parts t.variants)) z q) in
           let d = ap differ (texts-are tag content closed p os y.0 y.1) ∙ distinct-differ y.0 y.2 in
           keep-to way _ _ _ (counted-told way P st R conv r fol tgt v ps es w (tag_key tag v) (inside tag content closed) us rows told d)
           (sym (enum-says tag content closed v rows d) ∙ ap (λ t. entry_takes r v es tgt (entry_of conv name (enum_row (adjacent_tag t.tag t.content) (by_shape t.closed) t.variants))) (sym z))

@@ -25,7 +25,7 @@ use Rattle.convert_defs.specs.Apart.{differ}
 use Rattle.convert_defs.specs.RootReference.{is_root, root_in_same, root_in_lists, root_in_named, refers_to_root}
 use Rattle.convert_defs.specs.Convert.{Handed, Converts, named_by, most_made, same_flag, is_without_rest, has_two_places, unit_in, content_of, labeled, nullable_entry, row_fields, row_entries, row_variants, alike_fields, alike_entries, outside_fields, body_content, is_closed, entry_of, part_entry, made_within, raw_entry, past_branch, as_item, definition_entry, root_entry, definition_target, root_name, root_targets, root_use, table_of, Node, Tree, cut_branches, tree, inner_tree, made_tree, parts_tree, definition_tree, definition_trees, root_tree}
 use Rattle.convert_defs.specs.Laws.{AllNodes, IsRead, IsOfDocument, TablesAreFit}
-use Rattle.convert_defs.specs.Proper.{leads}
+use Rattle.convert_defs.specs.Proper.{leads, of_any_size}
 use Rattle.convert_defs.proofs.Bare.{none-some, some-same}
 use Rattle.convert_defs.proofs.Views.{schema_of, AllParts}
 use Rattle.convert_defs.proofs.Inside.{tree-is-read}
@@ -587,7 +587,7 @@ module _ (r : Relations) (d : Document) where
 
 pub tables_are_fit : TablesAreFit
 tables_are_fit r d depth g h =
-    let x = tree-is-read d r depth h in
+    let x = tree-is-read of_any_size d r depth h in
     is-fit r d depth
     (read-tree r d (suc depth) (Some (root_name d.root)) [] d.root (nodes-right r d (definition_trees r d depth d.definitions) _ x))
     (read-definitions r d depth d.definitions (nodes-left r d (definition_trees r d depth d.definitions) (root_tree r d depth) x)) g

@@ -31,13 +31,13 @@ use Rattle.convert_defs.specs.Table.{Line, lines, first_line, nullable, type_bes
 use Rattle.convert_defs.specs.RootReference.{is_root, has_root, root_in_same, root_in_lists, root_in_named, root_in_maybe, root_in_members, root_in_all, root_in_places, root_in_properties, refers_to_root}
 use Rattle.convert_defs.specs.Convert.{Handed, most_made, root_name, Node, Tree, cut_branches, tree, inner_tree, made_tree, parts_tree, definition_tree, definition_trees, document_tree}
 use Rattle.convert_defs.specs.Laws.{IsRead, AllNodes}
-use Rattle.convert_defs.specs.Proper.{AreProper, IsProper, ProperSame, ProperLists, ProperNamed, ProperMaybe, ProperMembers, AllProper, ProperPlaces, ProperProperties, IsProperDocument}
+use Rattle.convert_defs.specs.Proper.{AreProper, IsProper, ProperSame, ProperLists, ProperNamed, ProperMaybe, ProperMembers, AllProper, ProperPlaces, ProperProperties, AllAreProper}
 use Rattle.convert_defs.proofs.Views.{schema_of, AllParts}
 use Rattle.convert_defs.proofs.Rows.{parts-left, parts-right}
 use Rattle.convert_defs.proofs.Bare.{impossible, none-some, some-same}
 use Rattle.convert_defs.proofs.SameShapes.{whole, external-found, internal-found, adjacent-found}
 
-module _ (d : Document) where
+module _ (sized : ListRules → Type 0) (d : Document) where
   -- ---- what is in order is read
 
   abbrev Known : Bool → Type 0
@@ -51,69 +51,69 @@ module _ (d : Document) where
   never-known h = impossible h
 
   mutual
-    known-in : (s : Schema) → IsProper d s → Known (has_root s)
+    known-in : (s : Schema) → IsProper sized d s → Known (has_root s)
     known-in (boolean b) h = never-known
     known-in (object p ss ls ns) h = either-known (is_root p.reference) _ h.0.known (either-known (root_in_same ss) _ (known-same ss h.1) (either-known (root_in_lists ls) _ (known-lists ls h.2) (known-named ns h.3)))
 
-    known-same : (ss : Same) → ProperSame d ss → Known (root_in_same ss)
+    known-same : (ss : Same) → ProperSame sized d ss → Known (root_in_same ss)
     known-same no_same h = never-known
     known-same (same_value all any one none conditional) h = either-known (root_in_members all) _ (known-members all h.0) (either-known (root_in_members any) _ (known-members any h.1) (either-known (root_in_members one) _ (known-members one h.2) (known-maybe none h.3)))
 
-    known-lists : (ls : Lists) → ProperLists d ls → Known (root_in_lists ls)
+    known-lists : (ls : Lists) → ProperLists sized d ls → Known (root_in_lists ls)
     known-lists no_lists h = never-known
     known-lists (lists places others contains rules) h = either-known (root_in_places places) _ (known-places places h.0) (either-known (root_in_maybe others) _ (known-maybe others h.1) (known-maybe contains h.2))
 
-    known-named : (ns : Named) → ProperNamed d ns → Known (root_in_named ns)
+    known-named : (ns : Named) → ProperNamed sized d ns → Known (root_in_named ns)
     known-named no_named h = never-known
     known-named (named props patterns others names rules) h = either-known (root_in_properties props) _ (known-properties props h.0) (either-known (root_in_properties patterns) _ (known-properties patterns h.1) (either-known (root_in_maybe others) _ (known-maybe others h.2) (known-maybe names h.3)))
 
-    known-maybe : (m : MaybeSchema) → ProperMaybe d m → Known (root_in_maybe m)
+    known-maybe : (m : MaybeSchema) → ProperMaybe sized d m → Known (root_in_maybe m)
     known-maybe no_schema h = never-known
     known-maybe (the_schema s) h = known-in s h
 
-    known-members : (m : MaybeSchemas) → ProperMembers d m → Known (root_in_members m)
+    known-members : (m : MaybeSchemas) → ProperMembers sized d m → Known (root_in_members m)
     known-members no_list h = never-known
     known-members (the_list ss) h = known-all ss h
 
-    known-all : (ss : Schemas) → AllProper d ss → Known (root_in_all ss)
+    known-all : (ss : Schemas) → AllProper sized d ss → Known (root_in_all ss)
     known-all no_more h = never-known
     known-all (schema s ss) h = either-known (has_root s) _ (known-in s h.0) (known-all ss h.1)
 
-    known-places : (m : Places) → ProperPlaces d m → Known (root_in_places m)
+    known-places : (m : Places) → ProperPlaces sized d m → Known (root_in_places m)
     known-places no_items h = never-known
     known-places (each_item s) h = known-in s h
     known-places (by_place ss) h = known-all ss h
 
-    known-properties : (ps : Properties) → ProperProperties d ps → Known (root_in_properties ps)
+    known-properties : (ps : Properties) → ProperProperties sized d ps → Known (root_in_properties ps)
     known-properties no_properties h = never-known
     known-properties (property k s ps) h = either-known (has_root s) _ (known-in s h.0) (known-properties ps h.1)
 
-  one-apart : (s : Schema) → IsProper d s → is_apart s ≡ true
+  one-apart : (s : Schema) → IsProper sized d s → is_apart s ≡ true
   one-apart (boolean b) h = refl
   one-apart (object p ss ls ns) h = h.0.apart
 
-  all-apart : (ss : Schemas) → AllProper d ss → all_apart ss ≡ true
+  all-apart : (ss : Schemas) → AllProper sized d ss → all_apart ss ≡ true
   all-apart no_more h = refl
   all-apart (schema s ss) h = λ i. one-apart s h.0 i && all-apart ss h.1 i
 
-  members-are-apart : (m : MaybeSchemas) → ProperMembers d m → members_apart m ≡ true
+  members-are-apart : (m : MaybeSchemas) → ProperMembers sized d m → members_apart m ≡ true
   members-are-apart no_list h = refl
   members-are-apart (the_list ss) h = all-apart ss h
 
-  branches-are-apart : (ss : Same) → ProperSame d ss → branches_apart ss ≡ true
+  branches-are-apart : (ss : Same) → ProperSame sized d ss → branches_apart ss ≡ true
   branches-are-apart no_same h = refl
   branches-are-apart (same_value all any one none conditional) h = λ i. members-are-apart any h.1 i && members-are-apart one h.2 i
 
-  is-read : (s : Schema) → IsProper d s → IsRead d s
+  is-read : (s : Schema) → IsProper sized d s → IsRead d s
   is-read (boolean b) h = record { apart = tt; known = never-known; leads = tt }
   is-read (object p ss ls ns) h = record { apart = λ i. h.0.apart i && branches-are-apart ss h.1 i; known = known-in (object p ss ls ns) h; leads = h.0.led }
 
   -- ---- parts
 
-  abbrev In : Part → Type 0
-  In p = IsProper d (schema_of p)
+  abbrev pub In : Part → Type 0
+  In p = IsProper sized d (schema_of p)
 
-  abbrev AllIn : Row → Type 0
+  abbrev pub AllIn : Row → Type 0
   AllIn w = AllParts In (row_parts w)
 
   parts-both : (xs ys : List Part) → AllParts In xs → AllParts In ys → AllParts In (xs ++ ys)
@@ -123,45 +123,45 @@ module _ (d : Document) where
   blank : AreProper d None no_named
   blank = record { apart = refl; led = refl; known = never-known }
 
-  of-one-type : (k : InstanceType) → IsProper d (alone (of_type k no_keyword))
+  of-one-type : (k : InstanceType) → IsProper sized d (alone (of_type k no_keyword))
   of-one-type k = (blank, tt, tt, tt)
 
-  part-at : (k : Step) (m : MaybeSchema) → ProperMaybe d m → In (part_at k m)
+  part-at : (k : Step) (m : MaybeSchema) → ProperMaybe sized d m → In (part_at k m)
   part-at k no_schema h = tt
   part-at k (the_schema s) h = h
 
   -- ---- objects
 
-  fields-in : (st : Setting) (req : List (List ℕ)) (ps : Properties) → ProperProperties d ps → AllParts In (field_parts (property_fields st req ps))
+  fields-in : (st : Setting) (req : List (List ℕ)) (ps : Properties) → ProperProperties sized d ps → AllParts In (field_parts (property_fields st req ps))
   fields-in st req no_properties h = tt
   fields-in st req (property k s ps) h = (h.0, fields-in st req ps h.1)
 
-  outside-in : (ns : List (List ℕ)) (rest : MaybeSchema) → ProperMaybe d rest → AllParts In (outside_parts (outside_row ns rest))
+  outside-in : (ns : List (List ℕ)) (rest : MaybeSchema) → ProperMaybe sized d rest → AllParts In (outside_parts (outside_row ns rest))
   outside-in (n ∷ ns) rest h = (part-at (codes "additionalProperties") rest h, tt)
   outside-in [] no_schema h = tt
   outside-in [] (the_schema (boolean b)) h = tt
   outside-in [] (the_schema (object p ss ls ns)) h = (h, tt)
 
-  struct-in : (st : Setting) (props : Properties) (rest : MaybeSchema) (rules : MemberRules) → ProperProperties d props → ProperMaybe d rest → AllIn (struct_of st props rest rules)
+  struct-in : (st : Setting) (props : Properties) (rest : MaybeSchema) (rules : MemberRules) → ProperProperties sized d props → ProperMaybe sized d rest → AllIn (struct_of st props rest rules)
   struct-in st props rest rules h g = parts-both (field_parts (property_fields st rules.required props)) (outside_parts (outside_row (outside_names props rules.required) rest)) (fields-in st rules.required props h) (outside-in (outside_names props rules.required) rest g)
 
-  name-in : (m : MaybeSchema) → ProperMaybe d m → In (name_part m)
+  name-in : (m : MaybeSchema) → ProperMaybe sized d m → In (name_part m)
   name-in no_schema h = of-one-type Text
   name-in (the_schema (boolean b)) h = of-one-type Text
   name-in (the_schema (object p ss ls ns)) h = h
 
-  map-in : (rest names : MaybeSchema) → ProperMaybe d rest → ProperMaybe d names → AllIn (map_of rest names)
+  map-in : (rest names : MaybeSchema) → ProperMaybe sized d rest → ProperMaybe sized d names → AllIn (map_of rest names)
   map-in rest names h g = by (names_texts names)
     where
       by : (b : Bool) → AllIn (if b then map_row (name_part names) (other_part rest) else refused_row names_cause)
       by true = (name-in names g, (part-at (codes "additionalProperties") rest h, tt))
       by false = tt
 
-  pattern-in : (qs : Properties) → ProperProperties d qs → AllIn (pattern_row qs)
+  pattern-in : (qs : Properties) → ProperProperties sized d qs → AllIn (pattern_row qs)
   pattern-in no_properties h = tt
   pattern-in (property k s qs) h = (h.0, tt)
 
-  object-in : (st : Setting) (ns : Named) → ProperNamed d ns → AllIn (object_finding st ns).row
+  object-in : (st : Setting) (ns : Named) → ProperNamed sized d ns → AllIn (object_finding st ns).row
   object-in st no_named h = (of-one-type Text, (tt, tt))
   object-in st (named props patterns rest names rules) h = by (no_property props && is_empty rules.required && no_property patterns && not (is_false rest)) (no_property props && is_empty rules.required && not (is_given names) && is_shut rest && are_alike patterns)
     where
@@ -172,7 +172,7 @@ module _ (d : Document) where
 
   -- ---- arrays
 
-  places-in : (i n : ℕ) (ss : Schemas) → AllProper d ss → AllParts In (listed_parts i n ss)
+  places-in : (i n : ℕ) (ss : Schemas) → AllProper sized d ss → AllParts In (listed_parts i n ss)
   places-in i zero ss h = tt
   places-in i (suc n) no_more h = tt
   places-in i (suc n) (schema s ss) h = (h.0, places-in (suc i) n ss h.1)
@@ -181,12 +181,12 @@ module _ (d : Document) where
   further-in zero p h = tt
   further-in (suc n) p h = (h, tt)
 
-  each-in : (m : Places) → ProperPlaces d m → In (each_part m)
+  each-in : (m : Places) → ProperPlaces sized d m → In (each_part m)
   each-in no_items h = tt
   each-in (each_item s) h = h
   each-in (by_place ss) h = tt
 
-  fixed-in : (n : ℕ) (m : Places) (rest : MaybeSchema) → ProperPlaces d m → ProperMaybe d rest → AllIn (fixed_row n m rest)
+  fixed-in : (n : ℕ) (m : Places) (rest : MaybeSchema) → ProperPlaces sized d m → ProperMaybe sized d rest → AllIn (fixed_row n m rest)
   fixed-in n no_items rest h g = (tt, tt)
   fixed-in n (each_item s) rest h g = (h, tt)
   fixed-in n (by_place ss) rest h g =
@@ -200,7 +200,7 @@ module _ (d : Document) where
       by true = (h, tt)
       by false = (h, tt)
 
-  sized-in : (m : Places) (rest contains : MaybeSchema) (rules : ListRules) (o : Option ℕ) → ProperPlaces d m → ProperMaybe d rest → AllIn (sized_finding m rest contains rules o).row
+  sized-in : (m : Places) (rest contains : MaybeSchema) (rules : ListRules) (o : Option ℕ) → ProperPlaces sized d m → ProperMaybe sized d rest → AllIn (sized_finding m rest contains rules o).row
   sized-in m rest contains rules (Some n) h g = fixed-in n m rest h g
   sized-in m rest contains rules None h g = by (is_by_place m || is_given contains)
     where
@@ -208,16 +208,16 @@ module _ (d : Document) where
       by true = tt
       by false = open-in rules (each_part m) (each-in m h)
 
-  array-in : (ls : Lists) → ProperLists d ls → AllIn (array_finding ls).row
+  array-in : (ls : Lists) → ProperLists sized d ls → AllIn (array_finding ls).row
   array-in no_lists h = (tt, tt)
   array-in (lists m rest contains rules) h = sized-in m rest contains rules (fixed_size rules contains) h.0 h.1
 
   -- ---- object shapes
 
   abbrev ShapeIn : ObjectShape → Type 0
-  ShapeIn o = ProperProperties d o.props
+  ShapeIn o = ProperProperties sized d o.props
 
-  named-shape : (l : Location) (ms : Named) (o : ObjectShape) → ProperNamed d ms → shape_of_named l ms ≡ Some o → ShapeIn o
+  named-shape : (l : Location) (ms : Named) (o : ObjectShape) → ProperNamed sized d ms → shape_of_named l ms ≡ Some o → ShapeIn o
   named-shape l no_named o a e = subst ShapeIn (some-same _ o e) tt
   named-shape l (named props no_properties others no_schema rules) o a e = by (is_none rules.max_properties && is_none rules.min_properties && list_all (λ n. is_name n (names_of props)) rules.required) e
     where
@@ -231,7 +231,7 @@ module _ (d : Document) where
   named-shape l (named props (property k u us) others names rules) o a e = none-some o e
   named-shape l (named props no_properties others (the_schema u) rules) o a e = none-some o e
 
-  shape-in : (m : Member) (o : ObjectShape) → IsProper d m.1 → object_shape m ≡ Some o → ShapeIn o
+  shape-in : (m : Member) (o : ObjectShape) → IsProper sized d m.1 → object_shape m ≡ Some o → ShapeIn o
   shape-in (l, boolean b) o a e = none-some o e
   shape-in (l, object q sq lq nq) o a e = by (has_type Object q.types && is_bare q sq && is_none q.format && is_none q.numbers && is_none q.texts && without_lists lq) e
     where
@@ -241,7 +241,7 @@ module _ (d : Document) where
 
   abbrev MembersIn : List Member → Type 0
   MembersIn [] = Unit {0}
-  MembersIn (m ∷ ms) = IsProper d m.1 × MembersIn ms
+  MembersIn (m ∷ ms) = IsProper sized d m.1 × MembersIn ms
 
   abbrev ShapesIn : List ObjectShape → Type 0
   ShapesIn [] = Unit {0}
@@ -258,15 +258,15 @@ module _ (d : Document) where
       by (Some o) f None g h rec = none-some os (ap (option_map (λ ys. o ∷ ys)) (sym g) ∙ h)
       by (Some o) f (Some xs) g h rec = subst ShapesIn (some-same (o ∷ xs) os (ap (option_map (λ ys. o ∷ ys)) (sym g) ∙ h)) (shape-in m o a.0 f, rec xs g)
 
-  less-in : (n : List ℕ) (ps : Properties) → ProperProperties d ps → ProperProperties d (less_property n ps)
+  less-in : (n : List ℕ) (ps : Properties) → ProperProperties sized d ps → ProperProperties sized d (less_property n ps)
   less-in n no_properties h = tt
   less-in n (property k s ps) h = by (bytes_eq n k) (less-in n ps h.1)
     where
-      by : (b : Bool) → ProperProperties d (less_property n ps) → ProperProperties d (if b then less_property n ps else property k s (less_property n ps))
+      by : (b : Bool) → ProperProperties sized d (less_property n ps) → ProperProperties sized d (if b then less_property n ps else property k s (less_property n ps))
       by true g = g
       by false g = (h.0, g)
 
-  placed-in : (l : Location) (st : Setting) (req : List (List ℕ)) (ps : Properties) → ProperProperties d ps → AllParts In (field_parts (map (placed_field l) (property_fields st req ps)))
+  placed-in : (l : Location) (st : Setting) (req : List (List ℕ)) (ps : Properties) → ProperProperties sized d ps → AllParts In (field_parts (map (placed_field l) (property_fields st req ps)))
   placed-in l st req no_properties h = tt
   placed-in l st req (property k s ps) h = (h.0, placed-in l st req ps h.1)
 
@@ -310,7 +310,7 @@ module _ (d : Document) where
   both-in [] ys h g = g
   both-in (x ∷ xs) ys h g = parts-both (body_parts x.body) (variants_parts (xs ++ ys)) (parts-left In (body_parts x.body) (variants_parts xs) h) (both-in xs ys (parts-right In (body_parts x.body) (variants_parts xs) h) g)
 
-  one-in : (l : Location) (req : List (List ℕ)) (qs : Properties) (ws : List VariantRow) → ProperProperties d qs → lone_property l req qs ≡ Some ws → VariantsIn ws
+  one-in : (l : Location) (req : List (List ℕ)) (qs : Properties) (ws : List VariantRow) → ProperProperties sized d qs → lone_property l req qs ≡ Some ws → VariantsIn ws
   one-in l req no_properties ws a h = none-some ws h
   one-in l req (property k u no_properties) ws a h = chosen (is_name k req) h
     where
@@ -319,7 +319,7 @@ module _ (d : Document) where
       chosen false g = none-some ws g
   one-in l req (property k u (property m t qs)) ws a h = none-some ws h
 
-  case-in : (m : Member) (ws : List VariantRow) → IsProper d m.1 → external_case m ≡ Some ws → VariantsIn ws
+  case-in : (m : Member) (ws : List VariantRow) → IsProper sized d m.1 → external_case m ≡ Some ws → VariantsIn ws
   case-in (l, u) ws a e = by (text_case u) refl e
     where
       shaped : (o : Option ObjectShape) → object_shape (l, u) ≡ o → option_and_then one_property o ≡ Some ws → VariantsIn ws
@@ -367,7 +367,7 @@ module _ (d : Document) where
 
   -- ---- members
 
-  members-in : (k : Step) (i : ℕ) (us : Schemas) → AllProper d us → MembersIn (members_from k i us)
+  members-in : (k : Step) (i : ℕ) (us : Schemas) → AllProper sized d us → MembersIn (members_from k i us)
   members-in k i no_more h = tt
   members-in k i (schema u us) h = (h.0, members-in k (suc i) us h.1)
 
@@ -383,20 +383,20 @@ module _ (d : Document) where
       by true g = (h.0, g)
       by false g = g
 
-  only-in : (ms : List Member) (m : Member) → MembersIn ms → only_one ms ≡ Some m → IsProper d m.1
+  only-in : (ms : List Member) (m : Member) → MembersIn ms → only_one ms ≡ Some m → IsProper sized d m.1
   only-in [] m h e = none-some m e
-  only-in (n ∷ []) m h e = subst (λ x. IsProper d x.1) (some-same n m e) h.0
+  only-in (n ∷ []) m h e = subst (λ x. IsProper sized d x.1) (some-same n m e) h.0
   only-in (n ∷ l ∷ ms) m h e = none-some m e
 
-  member-in : (ms : List Member) (m : Member) → MembersIn ms → only_member ms ≡ Some m → IsProper d m.1
+  member-in : (ms : List Member) (m : Member) → MembersIn ms → only_member ms ≡ Some m → IsProper sized d m.1
   member-in [] m h e = none-some m e
-  member-in (n ∷ []) m h e = subst (λ x. IsProper d x.1) (some-same n m e) h.0
+  member-in (n ∷ []) m h e = subst (λ x. IsProper sized d x.1) (some-same n m e) h.0
   member-in (n ∷ l ∷ ms) m h e = none-some m e
 
-  option-in : (ms : List Member) (m : Member) → MembersIn ms → option_shape ms ≡ Some m → IsProper d m.1
+  option-in : (ms : List Member) (m : Member) → MembersIn ms → option_shape ms ≡ Some m → IsProper sized d m.1
   option-in ms m h e = by (nat_le 2 (length ms)) e
     where
-      by : (b : Bool) → (if b then only_one (filter (λ n. not (is_null_schema n.1)) ms) else None) ≡ Some m → IsProper d m.1
+      by : (b : Bool) → (if b then only_one (filter (λ n. not (is_null_schema n.1)) ms) else None) ≡ Some m → IsProper sized d m.1
       by true g = only-in (filter (λ n. not (is_null_schema n.1)) ms) m (kept-in (λ n. not (is_null_schema n.1)) ms h) g
       by false g = none-some m g
 
@@ -451,7 +451,7 @@ module _ (d : Document) where
   denied-in None vs = tt
   denied-in (Some k) vs = deny-in (made (alone (of_type k no_keyword))) vs (of-one-type k)
 
-  not-in : (n : List ℕ) (u : Schema) → IsProper d u → AllIn (not_finding n u).row
+  not-in : (n : List ℕ) (u : Schema) → IsProper sized d u → AllIn (not_finding n u).row
   not-in n (boolean true) h = tt
   not-in n (boolean false) h = tt
   not-in n (object q sq lq nq) h = by (is_none q.types && no_others q lq nq && without_same sq) (has_one_type q.types && is_some q.enum_values) (is_none q.types && is_some q.enum_values && no_others (less_enum q) lq nq && without_same sq)
@@ -462,7 +462,7 @@ module _ (d : Document) where
       by false false true = denied-in (type_of_listed (listed q.enum_values)) (listed q.enum_values)
       by false false false = tt
 
-  subschemas-in : (n : List ℕ) (x : Same) → ProperSame d x → AllIn (finding_or (subschema_finding d n x)).row
+  subschemas-in : (n : List ℕ) (x : Same) → ProperSame sized d x → AllIn (finding_or (subschema_finding d n x)).row
   subschemas-in n (same_value (the_list us) no_list no_list no_schema false) h = all-of-in (members_from (codes "allOf") 0 us) (members-in (codes "allOf") 0 us h.0)
   subschemas-in n (same_value no_list (the_list us) no_list no_schema false) h = any-of-in n (members_from (codes "anyOf") 0 us) (members-in (codes "anyOf") 0 us h.1)
   subschemas-in n (same_value no_list no_list (the_list us) no_schema false) h = one-of-in n (members_from (codes "oneOf") 0 us) (members-in (codes "oneOf") 0 us h.2)
@@ -471,7 +471,7 @@ module _ (d : Document) where
 
   -- ---- the lines of the table
 
-  module _ (r : Relations) (p : Plain) (ss : Same) (ls : Lists) (ns : Named) (proper : IsProper d (object p ss ls ns)) where
+  module _ (r : Relations) (p : Plain) (ss : Same) (ls : Lists) (ns : Named) (proper : IsProper sized d (object p ss ls ns)) where
     text-in : (o : Option Format) → AllIn (text_finding p o).row
     text-in (Some f) = tt
     text-in None = tt
@@ -530,7 +530,7 @@ module _ (d : Document) where
     typed-in None = tt
     typed-in (Some k) = (proper, tt)
 
-    kind-in : (k : InstanceType) → IsProper d (of_kinds p ls ns k)
+    kind-in : (k : InstanceType) → IsProper sized d (of_kinds p ls ns k)
     kind-in Null = of-one-type Null
     kind-in Boolean = of-one-type Boolean
     kind-in Object = (record { apart = proper.0.apart; led = refl; known = never-known }, tt, tt, proper.3)
@@ -615,7 +615,7 @@ module _ (d : Document) where
       ),
     )
 
-  parts-in : (r : Relations) (s : Schema) → IsProper d s → AllIn (row_of r d s)
+  pub parts-in : (r : Relations) (s : Schema) → IsProper sized d s → AllIn (row_of r d s)
   parts-in r (boolean true) h = tt
   parts-in r (boolean false) h = tt
   parts-in r (object p ss ls ns) h = first-in r p ss ls ns h (lines r d p ss ls ns) (lines-in r p ss ls ns h)
@@ -630,7 +630,7 @@ module _ (d : Document) where
   nodes-both (x ∷ xs) ys h g = (h.0, nodes-both xs ys h.1 g)
 
   abbrev Holds : Tree → Type 0
-  Holds t = (h : Handed) (l : Location) (s : Schema) → IsProper d s → AllNodes IsReadNode (t h l s)
+  Holds t = (h : Handed) (l : Location) (s : Schema) → IsProper sized d s → AllNodes IsReadNode (t h l s)
 
   cuts-read : (n : ℕ) (l : Location) (ms : List Member) → AllNodes IsReadNode (cut_branches n l ms)
   cuts-read (suc n) l ms = tt
@@ -664,10 +664,10 @@ module _ (d : Document) where
       inner-read (suc n) h l s x = tree-read n h l s x
 
     module _ (depth : ℕ) where
-      definitions-read : (ds : List Definition) → AllByRecursion (λ e. IsProper d e.body) ds → AllNodes IsReadNode (definition_trees r d depth ds)
+      definitions-read : (ds : List Definition) → AllByRecursion (λ e. IsProper sized d e.body) ds → AllNodes IsReadNode (definition_trees r d depth ds)
       definitions-read [] h = tt
       definitions-read (e ∷ ds) h = nodes-both (definition_tree r d depth e) _ (tree-read (suc depth) (Some e.name) (definition_location e) e.body h.0) (definitions-read ds h.1)
 
       -- the tree of a document that is in order
-      pub tree-is-read : IsProperDocument d → AllNodes IsReadNode (document_tree r d depth)
+      pub tree-is-read : AllAreProper sized d → AllNodes IsReadNode (document_tree r d depth)
       tree-is-read h = nodes-both (definition_trees r d depth d.definitions) _ (definitions-read d.definitions h.definitions) (tree-read (suc depth) (Some (root_name d.root)) [] d.root h.root)

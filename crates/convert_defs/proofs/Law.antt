@@ -59,6 +59,7 @@ use Rattle.enum_defs.proofs.Constants.{constant_texts_are_texts}
 use Rattle.convert_defs.proofs.Constants.{constant-text-holds}
 use Rattle.convert_defs.proofs.Alone.{listed-alone-holds}
 use Rattle.convert_defs.proofs.Options.{nullable-holds}
+use Rattle.convert_defs.specs.Proper.{of_any_size}
 use Rattle.convert_defs.proofs.Inside.{tree-is-read}
 use Rattle.convert_defs.proofs.Rows.{unlabeled, IsMade, IsClean, IsSound, Holds, AllHold, first-holds, string-holds, boolean-holds, array-holds, object-holds, null-holds, any-holds, reference-holds, typed-reference-holds, allowed-holds, all-types-hold, one-type-holds, parts-weaker, untyped-holds, constant-holds, integer-holds, kind-quiet, parts-quiet}
 
@@ -666,7 +667,7 @@ module _ (way : Way) (r : Relations) (d : Document) where
 
 pub conversion_agrees : ConversionAgrees
 conversion_agrees way r d depth g f n a v s =
-    let x = fine-nodes way r d depth (document_tree r d depth) f (free-ordered way (notes_in r d (document_tree r d depth)) n) (tree-is-read d r depth a) in
+    let x = fine-nodes way r d depth (document_tree r d depth) f (free-ordered way (notes_in r d (document_tree r d depth)) n) (tree-is-read of_any_size d r depth a) in
     let c = clean-document way r d depth x in
     kept way r d depth g c v s (document_tree r d depth) (document-entries way r d depth c x)
 
@@ -700,5 +701,5 @@ module _ (way : Way) (r : Relations) (d : Document) (depth : ℕ) (guarded : IsG
 
 pub root_agrees : RootAgrees
 root_agrees way r d depth g f n a v s =
-    let c = clean-document way r d depth (fine-nodes way r d depth (document_tree r d depth) f (free-ordered way (notes_in r d (document_tree r d depth)) n) (tree-is-read d r depth a)) in
+    let c = clean-document way r d depth (fine-nodes way r d depth (document_tree r d depth) f (free-ordered way (notes_in r d (document_tree r d depth)) n) (tree-is-read of_any_size d r depth a)) in
     root-used way r d depth g c v s (refers_to_root d) refl

@@ -21,6 +21,7 @@ pub mod Untagged
 pub mod OneOf
 pub mod Differ
 pub mod External
+pub mod Openness
 pub mod Internal
 pub mod Tagged
 pub mod Adjacent

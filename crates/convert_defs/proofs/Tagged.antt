@@ -1,6 +1,6 @@
 -- Internal enums, all branches together.
 use Rattle.schema_defs.specs.declared.Setting.{Setting}
-use Rattle.std.proofs.Common.{◌≡◌, ℕ, suc, List, [], ◌∷◌, map, Bool, true, false, ◌&&◌, ◌||◌, not, Option, Some, None, option_map, option_and_then, refl, sym, ap, ◌∙◌, subst, true≢false, bytes_eq}
+use Rattle.std.proofs.Common.{◌≡◌, ℕ, suc, List, [], ◌∷◌, map, Bool, true, false, ◌&&◌, ◌||◌, not, Option, Some, None, option_map, option_and_then, refl, sym, ap, ◌∙◌, subst, bytes_eq}
 use Rattle.std.specs.Prelude.{if◌then◌else◌}
 use Rattle.std.specs.List.{list_all, list_any}
 use Rattle.std.proofs.lemmas.Slice.Eq.{bytes_eq-Decides}
@@ -18,7 +18,7 @@ use Rattle.entry_defs.specs.Layer as entry
 use Rattle.entry_defs.specs.Layer.{entry_takes, variant_named, variant_of_text, tagged_variant, beside_tag, internal_takes, members_take}
 use Rattle.entry_defs.specs.Members.{names_differ, AreMembers}
 use Rattle.entry_defs.proofs.Members.{members_one_by_one}
-use Rattle.convert_defs.specs.Row.{Way, narrowed, widened, here, mixed_branches_note, Part, FieldRow, field_parts, body_parts, VariantRow, variants_parts, enum_row, by_shape}
+use Rattle.convert_defs.specs.Row.{Way, narrowed, here, mixed_branches_note, Part, FieldRow, field_parts, body_parts, VariantRow, variants_parts, enum_row, by_shape}
 use Rattle.convert_defs.specs.IntegerRow.{note_if}
 use Rattle.convert_defs.specs.Standing.{no_keyword}
 use Rattle.enum_defs.specs.Words.{is_name, names_of, all_some}
@@ -39,6 +39,7 @@ use Rattle.convert_defs.proofs.OneOf.{One, Counted}
 use Rattle.convert_defs.proofs.External.{names, keyed, required-within}
 use Rattle.convert_defs.proofs.Differ.{distinct-differ, head-alone}
 use Rattle.convert_defs.proofs.Fine.{branch-names, member-shape}
+use Rattle.convert_defs.proofs.Openness.{AllOpen, open-each}
 use Rattle.convert_defs.proofs.Internal.{Told, AllTold, counted-told, text_in, tag_key, text-there, beside-members, branch_takes, branch-keeps, tag-value, all-has}
 use Rattle.convert_defs.proofs.PlacedShapes.{internal_with}
 use Rattle.convert_defs.proofs.SameShapes.{whole, internal-found}
@@ -48,10 +49,6 @@ constant-there no_schema s h = none-some s h
 constant-there (the_schema u) s h = (u, refl, h)
 
 module _ (way : Way) (P : List ℕ → Type 0) (st : Setting) (R : Schema → Entry → Type 0) (conv : Part → Entry) (r : Relations) (fol : List ℕ → Bool) (tgt : Target → Bool) (v : Value) (ps : Parts) (es : model.Parts entry.Judge) (w : View way st R r v ps es) where
-  abbrev AllOpen : Bool → List ObjectShape → Type 0
-  AllOpen c [] = Unit {0}
-  AllOpen c (o ∷ os) = Keeps way (not o.closed) (not c) × AllOpen c os
-
   module _ (tag : List ℕ) (closed : Bool) where
     abbrev inside : VariantRow → Bool
     inside x = beside_tag closed (without tag (members_in es)) (body_content conv (internal_tag tag) closed x.body)
@@ -180,7 +177,7 @@ module _ (way : Way) (P : List ℕ → Type 0) (st : Setting) (R : Schema → En
     Sound xs = AllParts (IsSound way P st R conv r fol tgt v ps es w) (variants_parts xs)
 
     all-told : (k : Step) (i : ℕ) (us : Schemas) (os : List ObjectShape) (ts : List (List ℕ)) → all_some object_shape (members_from k i us) ≡ Some os → all_some (constant_at tag) os ≡ Some ts → list_all (λ o. is_name tag o.required_names) os ≡ true → all_apart us ≡ true
-        → AllOpen closed os → Sound (map (internal_variant st tag) os) → AllTold way P st R conv r fol tgt v ps es w (tag_key tag v) inside us (map (internal_variant st tag) os)
+        → AllOpen way closed os → Sound (map (internal_variant st tag) os) → AllTold way P st R conv r fol tgt v ps es w (tag_key tag v) inside us (map (internal_variant st tag) os)
     all-told k i no_more os ts e f g a z q = subst (λ xs. AllTold way P st R conv r fol tgt v ps es w (tag_key tag v) inside no_more (map (internal_variant st tag) xs)) (some-same [] os e) tt
     all-told k i (schema s ss) [] ts e f g a z q = let x = split-some object_shape (k ∷ place i ∷ [], s) (members_from k (suc i) ss) [] e in impossible (sym (ap (λ xs. elim xs [ [] ↦ false | y ∷ ys ↦ true ]) x.4))
     all-told k i (schema s ss) (o ∷ os) ts e f g a z q =
@@ -199,28 +196,6 @@ module _ (way : Way) (P : List ℕ → Type 0) (st : Setting) (R : Schema → En
         let a = ap words_or_none y.2 in
         let b = texts-are os y.1 y.3 in
         (λ i. a i ∷ b i) ∙ y.4
-
-  -- each branch is open or closed as the enum is
-  open-each : (c mixed : Bool) (os : List ObjectShape) → (same_way way narrowed ≡ true → (c && list_any (λ o. not o.closed) os) ≡ false) → (list_any (λ o. o.closed) os ≡ true → c ≡ true) → AllOpen c os
-  open-each c mixed [] f g = tt
-  open-each c mixed (o ∷ os) f g = (one way o.closed refl f, open-each c mixed os (λ z. rest c (f z)) (λ h. g (or-second o.closed (list_any (λ o. o.closed) os) h)))
-    where
-      or-second : (a b : Bool) → b ≡ true → (a || b) ≡ true
-      or-second true b h = refl
-      or-second false b h = h
-
-      rest : (c : Bool) → (c && (not o.closed || list_any (λ o. not o.closed) os)) ≡ false → (c && list_any (λ o. not o.closed) os) ≡ false
-      rest true h = or_right (not o.closed) _ h
-      rest false h = refl
-
-      one : (m : Way) (b : Bool) → o.closed ≡ b → (same_way m narrowed ≡ true → (c && (not o.closed || list_any (λ o. not o.closed) os)) ≡ false) → Keeps m (not o.closed) (not c)
-      one narrowed b e f = λ t. shut t c (f refl)
-        where
-          shut : not o.closed ≡ true → (c : Bool) → (c && (not o.closed || list_any (λ o. not o.closed) os)) ≡ false → not c ≡ true
-          shut t true h = absurd (true≢false (sym t ∙ or_left (not o.closed) _ h))
-          shut t false h = refl
-      one widened true e f = λ t. absurd (true≢false (sym t ∙ ap not (g (ap (λ b. b || list_any (λ o. o.closed) os) e))))
-      one widened false e f = λ t. ap not e
 
   pub internal-holds : (d : Document) (name : List ℕ) (k : Step) (us : Schemas) → all_apart us ≡ true → (t : TaggedShape) → internal_shape st (members_from k 0 us) ≡ Some t → One way P st R conv r fol tgt v ps es w name us (one_of_internal d (members_from k 0 us) (Some t))
   internal-holds d name k us a t e = λ g0 c q. let f = internal-found st (members_from k 0 us) t e in made (map whole (members_from k 0 us)) f.shapes f.tag f.is_one t f.made c q
@@ -241,7 +216,7 @@ module _ (way : Way) (P : List ℕ → Type 0) (st : Setting) (R : Schema → En
           let closed = some_closed os in
           let rows = map (internal_variant st n) os in
           let mix : same_way way narrowed ≡ true → (some_closed os && list_any (λ o. not o.closed) os) ≡ false = λ u. sym (ap (λ t. t.mixed) z) ∙ free-note way x.mixed (here narrowed mixed_branches_note) (free-left way (note_if x.mixed (here narrowed mixed_branches_note)) _ c.0) u in
-          let told = all-told n closed k 0 us os y.0 f y.1 y.3 a (open-each closed true os mix (λ g. g)) (subst (λ t. AllParts (IsSound way P st R conv r fol tgt v ps es w) (variants_parts t.variants)) z q) in
+          let told = all-told n closed k 0 us os y.0 f y.1 y.3 a (open-each way closed os mix (λ g. g)) (subst (λ t. AllParts (IsSound way P st R conv r fol tgt v ps es w) (variants_parts t.variants)) z q) in
           let d = ap differ (texts-are n closed os y.0 y.1) ∙ distinct-differ y.0 y.2 in
           keep-to way _ _ _ (counted-told way P st R conv r fol tgt v ps es w (tag_key n v) (inside n closed) us rows told d)
           (sym (enum-says n closed v rows d) ∙ ap (λ t. entry_takes r v es tgt (entry_of conv name (enum_row (internal_tag t.tag) (by_shape t.closed) t.variants))) (sym z))

@@ -1,7 +1,8 @@
--- Schemas in each of which names of properties and required names differ.
+-- Schemas in each of which names of properties and required names differ, and fewer than 2^32 places are asked of a list.
 use Rattle.std.proofs.Common.{◌≡◌, List, [], ◌∷◌, true}
 use Rattle.schema_defs.specs.Schema.{Schema, boolean, object, Same, no_same, same_value, Lists, no_lists, lists, Named, no_named, named, MaybeSchema, no_schema, the_schema, MaybeSchemas, no_list, the_list, Schemas, no_more, schema, Places, no_items, each_item, by_place, Properties, no_properties, property, Definition, Document}
 use Rattle.convert_defs.specs.Apart.{names_apart}
+use Rattle.document_laws.specs.Laws.{AsksForFew}
 
 abbrev mutual
   pub Apart : Schema → Type 0
@@ -14,7 +15,7 @@ abbrev mutual
 
   pub ApartLists : Lists → Type 0
   ApartLists no_lists = Unit {0}
-  ApartLists (lists places rest contains rules) = ApartPlaces places × ApartMaybe rest × ApartMaybe contains
+  ApartLists (lists places rest contains rules) = ApartPlaces places × ApartMaybe rest × ApartMaybe contains × AsksForFew rules
 
   pub ApartNamed : Named → Type 0
   ApartNamed no_named = Unit {0}

@@ -1,9 +1,10 @@
--- A value in whose objects no name stands twice is read as a document in each of whose schemas names differ.
-use Rattle.std.proofs.Common.{◌≡◌, ℕ, List, [], ◌∷◌, Option, Some, None, option_map, Ordering, Less, Equal, Greater, Bool, true, false, ◌&&◌, ◌||◌, not, bytes_eq, true≢false, refl, sym, subst}
-use Rattle.std.specs.Prelude.{unwrap_or, option_and_then, codes}
+-- A value in whose objects no name stands twice is read as a document in each of whose schemas names differ, and sizes are below 2^32.
+use Rattle.std.proofs.Common.{◌≡◌, ℕ, ◌<◌, ◌^◌, pos, negsuc, List, [], ◌∷◌, Option, Some, None, option_map, Ordering, Less, Equal, Greater, Bool, true, false, ◌&&◌, ◌||◌, not, bytes_eq, true≢false, refl, sym, subst, arith}
+use Rattle.std.specs.Prelude.{nat_le, unwrap_or, option_and_then, codes, if◌then◌else◌}
 use Rattle.std.specs.List.{list_all}
 use Rattle.std.specs.Ordering.{nat_cmp, match_ordering}
 use Rattle.std.specs.Cmp.Lexicographic.{slice_cmp}
+use Rattle.std.proofs.lemmas.Bool.{leb-true}
 use Rattle.json_value.specs.Value as value
 use Rattle.json_value.specs.Value.{Value, Items, Members, null, number, fraction, text, list, item, no_items, member, no_members, member_at, has_name}
 use Rattle.schema_defs.specs.declared.Setting.{Setting}
@@ -13,7 +14,7 @@ use Rattle.schema_defs.specs.Read.{◌⊛◌, Reading, Lookup, lookup_of, readin
 use Rattle.schema_defs.proofs.Unknown.{keywords_are_members}
 use Rattle.enum_defs.specs.Words.{names_of}
 use Rattle.distinct_names.specs.Names.{NamesDiffer, NamesOfItemsDiffer, MembersDiffer}
-use Rattle.schema_laws.proofs.Options.{IfThere, chosen, mapped, followed, flattened, taken, passed, passed3, taken2, taken3, taken4}
+use Rattle.schema_laws.proofs.Options.{IfThere, chosen, mapped, followed, flattened, taken, passed, taken2, taken3, taken4}
 use Rattle.convert_defs.specs.Apart.{differ}
 use Rattle.document_laws.proofs.Rising.{set-differs}
 use Rattle.document_laws.proofs.Apart.{Apart, ApartSame, ApartLists, ApartNamed, ApartMaybe, ApartList, ApartAll, ApartPlaces, ApartNames, ApartDefinitions, ApartDocument}
@@ -70,6 +71,29 @@ at_required v g = by (reading v).whole
     by (text s) = tt
     by (value.object ms) = tt
 
+abbrev Few : ℕ → Type 0
+Few n = n < 2 ^ 32
+
+at_size : ApartAt (by_value size_of) Few
+at_size v g = by (reading v).whole
+  where
+    fits : (n : ℕ) (b : Bool) → nat_le n 4294967295 ≡ b → IfThere Few (if b then Some n else None)
+    fits n true e =
+        let l = leb-true n 4294967295 e in
+        let few : n < 2 ^ 32 = omega arith in
+        few
+    fits n false e = tt
+
+    by : (w : Value) → IfThere Few (size_of w)
+    by (number (pos n)) = fits n (nat_le n 4294967295) refl
+    by (number (negsuc n)) = tt
+    by null = tt
+    by (value.boolean b) = tt
+    by fraction = tt
+    by (text s) = tt
+    by (list xs) = tt
+    by (value.object ms) = tt
+
 module _ {A : Type 0} (ms : Members) (k : List ℕ) (f : Reading → Option A) (Q : A → Type 0) (read : ApartAt f Q) where
   at_member : (o : Option Value) → FollowsMaybe o → IfThere (IfThere Q) (optional f (option_map reading o))
   at_member None g = tt
@@ -96,6 +120,13 @@ names_apart_of : (o : Option Properties) → IfThere Named_ o → Named_ (unwrap
 names_apart_of None h = (tt, refl)
 names_apart_of (Some ps) h = h
 
+few : (o : Option ℕ) → IfThere Few o → (n : ℕ) → o ≡ Some n → n < 2 ^ 32
+few None h n e = absurd (none_some n e)
+  where
+    none_some : (n : ℕ) → None ≡ Some n → ⊥
+    none_some n e = cc
+few (Some m) h n e = let same : m ≡ n = cc in subst Few same h
+
 required_apart : (o : Option (List (List ℕ))) → IfThere Differ o → Differ (unwrap_or o [])
 required_apart None h = refl
 required_apart (Some ns) h = h
@@ -112,15 +143,24 @@ module _ (f : Lookup) where
       tt
 
   lists_apart : IfThere (IfThere ApartPlaces) (keyword (codes "items") places_of f) → IfThere (IfThere Apart) (keyword (codes "additionalItems") (λ r. r.as_schema) f)
-      → IfThere (IfThere Apart) (keyword (codes "contains") (λ r. r.as_schema) f) → IfThere ApartLists (lists_of f)
+      → IfThere (IfThere Apart) (keyword (codes "contains") (λ r. r.as_schema) f) → IfThere (IfThere Few) (keyword (codes "minItems") (by_value size_of) f) → IfThere ApartLists (lists_of f)
   unfolding lists_of
-  lists_apart a b c =
+  lists_apart a b c e =
       chosen (IfThere ApartLists) (any_stands list_words f) _ _
-      (passed3 ApartLists (Some make_lists ⊛ keyword (codes "items") places_of f ⊛ keyword (codes "additionalItems") (λ r. r.as_schema) f ⊛ keyword (codes "contains") (λ r. r.as_schema) f)
-      (keyword (codes "maxItems") (by_value size_of) f) (keyword (codes "minItems") (by_value size_of) f) (keyword (codes "uniqueItems") (by_value flag_of) f)
-      (taken3 (IfThere ApartPlaces) (IfThere Apart) (IfThere Apart) (λ (k : Option ℕ → Option ℕ → Option Bool → Lists). (m : Option ℕ) (n : Option ℕ) (u : Option Bool) → ApartLists (k m n u)) (Some make_lists)
+      (passed ApartLists
+      (Some make_lists ⊛ keyword (codes "items") places_of f ⊛ keyword (codes "additionalItems") (λ r. r.as_schema) f ⊛ keyword (codes "contains") (λ r. r.as_schema) f
+      ⊛ keyword (codes "maxItems") (by_value size_of) f ⊛ keyword (codes "minItems") (by_value size_of) f)
+      (keyword (codes "uniqueItems") (by_value flag_of) f)
+      (taken (IfThere Few) (λ (k : Option Bool → Lists). (u : Option Bool) → ApartLists (k u))
+      (Some make_lists ⊛ keyword (codes "items") places_of f ⊛ keyword (codes "additionalItems") (λ r. r.as_schema) f ⊛ keyword (codes "contains") (λ r. r.as_schema) f ⊛ keyword (codes "maxItems") (by_value size_of) f)
+      (keyword (codes "minItems") (by_value size_of) f)
+      (passed (λ (k : Option ℕ → Option Bool → Lists). (n : Option ℕ) → IfThere Few n → (u : Option Bool) → ApartLists (k n u))
+      (Some make_lists ⊛ keyword (codes "items") places_of f ⊛ keyword (codes "additionalItems") (λ r. r.as_schema) f ⊛ keyword (codes "contains") (λ r. r.as_schema) f)
+      (keyword (codes "maxItems") (by_value size_of) f)
+      (taken3 (IfThere ApartPlaces) (IfThere Apart) (IfThere Apart) (λ (k : Option ℕ → Option ℕ → Option Bool → Lists). (m : Option ℕ) (n : Option ℕ) → IfThere Few n → (u : Option Bool) → ApartLists (k m n u)) (Some make_lists)
       (keyword (codes "items") places_of f) (keyword (codes "additionalItems") (λ r. r.as_schema) f) (keyword (codes "contains") (λ r. r.as_schema) f)
-      (λ places h rest i contains j m n u. (places_apart places h, maybe_apart rest i, maybe_apart contains j)) a b c))
+      (λ places h rest i contains j m n g u. (places_apart places h, maybe_apart rest i, maybe_apart contains j, few n g)) a b c))
+      e))
       tt
 
   both : (a b : Bool) → a ≡ true → b ≡ true → (a && b) ≡ true
@@ -181,7 +221,8 @@ object_apart ms g =
     (lists_apart look
     (at_keyword ms (codes "items") places_of ApartPlaces at_items (g (codes "items")))
     (at_keyword ms (codes "additionalItems") (λ r. r.as_schema) Apart (λ v h. h.as_schema) (g (codes "additionalItems")))
-    (at_keyword ms (codes "contains") (λ r. r.as_schema) Apart (λ v h. h.as_schema) (g (codes "contains"))))
+    (at_keyword ms (codes "contains") (λ r. r.as_schema) Apart (λ v h. h.as_schema) (g (codes "contains")))
+    (at_keyword ms (codes "minItems") (by_value size_of) Few at_size (g (codes "minItems"))))
     (named_apart look
     (at_keyword ms (codes "properties") (λ r. r.as_named) Named_ (λ v h. h.as_named) (g (codes "properties")))
     (at_keyword ms (codes "patternProperties") (λ r. r.as_named) Named_ (λ v h. h.as_named) (g (codes "patternProperties")))

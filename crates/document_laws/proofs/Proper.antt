@@ -1,7 +1,7 @@
 -- A document that was read is proper, so that its conversion agrees.
 use Rattle.std.proofs.Common.{◌≡◌, ℕ, List, [], ◌∷◌, Bool, true, false, ◌||◌, Option, Some, None, is_some, refl, sym, ap, subst, ◌∙◌}
 use Rattle.std.specs.List.{AllByRecursion, list_any}
-use Rattle.schema_defs.specs.Schema.{Schema, boolean, object, Same, no_same, same_value, Lists, no_lists, lists, Named, no_named, named, MaybeSchema, no_schema, the_schema, MaybeSchemas, no_list, the_list, Schemas, no_more, schema, Places, no_items, each_item, by_place, Properties, no_properties, property, Definition, Document}
+use Rattle.schema_defs.specs.Schema.{Schema, boolean, object, Same, no_same, same_value, Lists, no_lists, lists, Named, no_named, named, MaybeSchema, no_schema, the_schema, MaybeSchemas, no_list, the_list, Schemas, no_more, schema, Places, no_items, each_item, by_place, Properties, no_properties, property, ListRules, Definition, Document}
 use Rattle.schema_defs.specs.Admits.{target}
 use Rattle.schema_faults.specs.Schemas.{schemas_of}
 use Rattle.schema_faults.specs.Faults as faults
@@ -14,7 +14,7 @@ use Rattle.schema_laws.proofs.Fine.{Passes, Fine, FineSame, FineLists, FineNamed
 use Rattle.schema_laws.proofs.Reading.{document_fine}
 use Rattle.convert_defs.specs.Apart.{names_apart}
 use Rattle.convert_defs.specs.RootReference.{is_root, has_root, root_in_same, root_in_lists, root_in_named, root_in_maybe, root_in_members, root_in_all, root_in_places, root_in_properties, refers_to_root}
-use Rattle.convert_defs.specs.Proper.{leads, IsProper, ProperSame, ProperLists, ProperNamed, ProperMaybe, ProperMembers, AllProper, ProperPlaces, ProperProperties, IsProperDocument}
+use Rattle.convert_defs.specs.Proper.{leads, IsProper, ProperSame, ProperLists, ProperNamed, ProperMaybe, ProperMembers, AllProper, ProperPlaces, ProperProperties, AllAreProper, of_any_size}
 use Rattle.convert_defs.proofs.Law.{conversion_agrees, root_agrees}
 use Rattle.convert_defs.proofs.Fit.{tables_are_fit}
 use Rattle.convert_defs.specs.Convert.{table_of}
@@ -24,7 +24,7 @@ use Rattle.naming_defs.proofs.Good.{numbered_names_are_good}
 use Rattle.naming_defs.proofs.Fresh.{names_are_good}
 use Rattle.naming_defs.proofs.Sound.{named_tables_are_sound}
 use Rattle.naming_defs.proofs.Meaning.{naming_keeps_meaning}
-use Rattle.document_laws.specs.Laws.{DocumentsAreProper, ReadDocumentsAgree, ReadRootsAgree, ReadTablesAreFit, ReadDocumentsArePlanned, ReadPlansAgree}
+use Rattle.document_laws.specs.Laws.{WasRead, AsksForFew, DocumentsAreProper, DocumentsAreSized, ReadDocumentsAgree, ReadRootsAgree, ReadTablesAreFit, ReadDocumentsArePlanned, ReadPlansAgree}
 use Rattle.document_laws.proofs.Apart.{Apart, ApartSame, ApartLists, ApartNamed, ApartMaybe, ApartList, ApartAll, ApartPlaces, ApartNames, ApartDefinitions, ApartDocument}
 use Rattle.document_laws.proofs.NamesRead.{document_apart}
 
@@ -35,7 +35,7 @@ or-right : (a b : Bool) → b ≡ true → (a || b) ≡ true
 or-right true b h = refl
 or-right false b h = h
 
-module _ (d : Document) (p : List ℕ → Bool) (to : (q : List ℕ) → p q ≡ is_some (target d q)) where
+module _ (sized : ListRules → Type 0) (few : (rules : ListRules) → AsksForFew rules → sized rules) (d : Document) (p : List ℕ → Bool) (to : (q : List ℕ) → p q ≡ is_some (target d q)) where
   -- a `#` inside stands in the document
   abbrev Known : Bool → Type 0
   Known b = b ≡ true → refers_to_root d ≡ true
@@ -55,7 +55,7 @@ module _ (d : Document) (p : List ℕ → Bool) (to : (q : List ℕ) → p q ≡
   apart-named (named props patterns others names rules) h = h.0
 
   mutual
-    proper : (s : Schema) → Fine p s → Apart s → Known (has_root s) → IsProper d s
+    proper : (s : Schema) → Fine p s → Apart s → Known (has_root s) → IsProper sized d s
     proper (boolean b) f a k = tt
     proper (object q ss ls ns) f a k =
         let k1 = in-right (is_root q.reference) (root_in_same ss || (root_in_lists ls || root_in_named ns)) k in
@@ -66,7 +66,7 @@ module _ (d : Document) (p : List ℕ → Bool) (to : (q : List ℕ) → p q ≡
           proper-named ns f.3 a.2 (in-right (root_in_lists ls) (root_in_named ns) k2),
         )
 
-    proper-same : (ss : Same) → FineSame p ss → ApartSame ss → Known (root_in_same ss) → ProperSame d ss
+    proper-same : (ss : Same) → FineSame p ss → ApartSame ss → Known (root_in_same ss) → ProperSame sized d ss
     proper-same no_same f a k = tt
     proper-same (same_value all any one none conditional) f a k =
         let k1 = in-right (root_in_members all) (root_in_members any || (root_in_members one || root_in_maybe none)) k in
@@ -77,16 +77,17 @@ module _ (d : Document) (p : List ℕ → Bool) (to : (q : List ℕ) → p q ≡
           proper-maybe none f.3 a.3 (in-right (root_in_members one) (root_in_maybe none) k2),
         )
 
-    proper-lists : (ls : Lists) → FineLists p ls → ApartLists ls → Known (root_in_lists ls) → ProperLists d ls
+    proper-lists : (ls : Lists) → FineLists p ls → ApartLists ls → Known (root_in_lists ls) → ProperLists sized d ls
     proper-lists no_lists f a k = tt
     proper-lists (lists places others contains rules) f a k =
         let k1 = in-right (root_in_places places) (root_in_maybe others || root_in_maybe contains) k in (
           proper-places places f.0 a.0 (in-left (root_in_places places) (root_in_maybe others || root_in_maybe contains) k),
           proper-maybe others f.1 a.1 (in-left (root_in_maybe others) (root_in_maybe contains) k1),
           proper-maybe contains f.2 a.2 (in-right (root_in_maybe others) (root_in_maybe contains) k1),
+          few rules a.3,
         )
 
-    proper-named : (ns : Named) → FineNamed p ns → ApartNamed ns → Known (root_in_named ns) → ProperNamed d ns
+    proper-named : (ns : Named) → FineNamed p ns → ApartNamed ns → Known (root_in_named ns) → ProperNamed sized d ns
     proper-named no_named f a k = tt
     proper-named (named props patterns others names rules) f a k =
         let k1 = in-right (root_in_properties props) (root_in_properties patterns || (root_in_maybe others || root_in_maybe names)) k in
@@ -97,45 +98,51 @@ module _ (d : Document) (p : List ℕ → Bool) (to : (q : List ℕ) → p q ≡
           proper-maybe names f.3 a.4 (in-right (root_in_maybe others) (root_in_maybe names) k2),
         )
 
-    proper-maybe : (m : MaybeSchema) → FineMaybe p m → ApartMaybe m → Known (root_in_maybe m) → ProperMaybe d m
+    proper-maybe : (m : MaybeSchema) → FineMaybe p m → ApartMaybe m → Known (root_in_maybe m) → ProperMaybe sized d m
     proper-maybe no_schema f a k = tt
     proper-maybe (the_schema s) f a k = proper s f a k
 
-    proper-members : (m : MaybeSchemas) → FineList p m → ApartList m → Known (root_in_members m) → ProperMembers d m
+    proper-members : (m : MaybeSchemas) → FineList p m → ApartList m → Known (root_in_members m) → ProperMembers sized d m
     proper-members no_list f a k = tt
     proper-members (the_list ss) f a k = all-proper ss f a k
 
-    all-proper : (ss : Schemas) → FineAll p ss → ApartAll ss → Known (root_in_all ss) → AllProper d ss
+    all-proper : (ss : Schemas) → FineAll p ss → ApartAll ss → Known (root_in_all ss) → AllProper sized d ss
     all-proper no_more f a k = tt
     all-proper (schema s ss) f a k = (proper s f.0 a.0 (in-left (has_root s) (root_in_all ss) k), all-proper ss f.1 a.1 (in-right (has_root s) (root_in_all ss) k))
 
-    proper-places : (m : Places) → FinePlaces p m → ApartPlaces m → Known (root_in_places m) → ProperPlaces d m
+    proper-places : (m : Places) → FinePlaces p m → ApartPlaces m → Known (root_in_places m) → ProperPlaces sized d m
     proper-places no_items f a k = tt
     proper-places (each_item s) f a k = proper s f a k
     proper-places (by_place ss) f a k = all-proper ss f a k
 
-    proper-properties : (ps : Properties) → FineNames p ps → ApartNames ps → Known (root_in_properties ps) → ProperProperties d ps
+    proper-properties : (ps : Properties) → FineNames p ps → ApartNames ps → Known (root_in_properties ps) → ProperProperties sized d ps
     proper-properties no_properties f a k = tt
     proper-properties (property n s ps) f a k = (proper s f.0 a.0 (in-left (has_root s) (root_in_properties ps) k), proper-properties ps f.1 a.1 (in-right (has_root s) (root_in_properties ps) k))
 
-  proper-definitions : (es : List Definition) → FineDefinitions p es → ApartDefinitions es → Known (list_any (λ e. has_root e.body) es) → AllByRecursion (λ e. IsProper d e.body) es
+  proper-definitions : (es : List Definition) → FineDefinitions p es → ApartDefinitions es → Known (list_any (λ e. has_root e.body) es) → AllByRecursion (λ e. IsProper sized d e.body) es
   proper-definitions [] f a k = tt
   proper-definitions (e ∷ es) f a k =
       (proper e.body f.0 a.0 (in-left (has_root e.body) (list_any (λ e. has_root e.body) es) k), proper-definitions es f.1 a.1 (in-right (has_root e.body) (list_any (λ e. has_root e.body) es) k))
 
-  proper-document : FineDocument p d → ApartDocument d → IsProperDocument d
+  proper-document : FineDocument p d → ApartDocument d → AllAreProper sized d
   proper-document f a = record {
     root = proper d.root f.0 a.0 (in-left (has_root d.root) (list_any (λ e. has_root e.body) d.definitions) (λ h. h));
     definitions = proper-definitions d.definitions f.1 a.1 (in-right (has_root d.root) (list_any (λ e. has_root e.body) d.definitions) (λ h. h));
   }
 
-pub documents_are_proper : DocumentsAreProper
-documents_are_proper d w =
+of-read : (sized : ListRules → Type 0) → ((rules : ListRules) → AsksForFew rules → sized rules) → (d : Document) → WasRead d → AllAreProper sized d
+of-read sized few d w =
     let v = w.value in
     let p = faults.leads v in
     let fine : FineDocument p d = subst (IfThere (FineDocument p)) w.read.read (document_fine p w.setting v (sym (empty-told (bad_reference_texts v) (schemas_of v)) ∙ ap is_empty w.read.readable.0.1)) in
     let apart : ApartDocument d = subst (IfThere ApartDocument) w.read.read (document_apart w.setting v w.differ) in
-    proper-document d p (leads_to_targets w.setting v d w.read.read) fine apart
+    proper-document sized few d p (leads_to_targets w.setting v d w.read.read) fine apart
+
+pub documents_are_proper : DocumentsAreProper
+documents_are_proper = of-read of_any_size (λ rules h. tt)
+
+pub documents_are_sized : DocumentsAreSized
+documents_are_sized = of-read AsksForFew (λ rules h. h)
 
 pub read_documents_agree : ReadDocumentsAgree
 read_documents_agree way r d depth w c v s = conversion_agrees way r d depth w.read.guarded c.faultless c.noteless (documents_are_proper d w) v s

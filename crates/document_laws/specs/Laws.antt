@@ -1,10 +1,10 @@
 -- Documents that were read, and their conversion: its premises are faults, notes and small values alone.
-use Rattle.std.specs.Prelude.{◌≡◌, ℕ, [], true}
+use Rattle.std.specs.Prelude.{◌≡◌, ℕ, ◌<◌, ◌^◌, [], true, Some}
 use Rattle.std.specs.List.{AllByRecursion}
 use Rattle.json_value.specs.Value.{Value, IsSmall}
 use Rattle.schema_defs.specs.declared.Setting.{Setting}
 use Rattle.schema_defs.specs.Texts.{Relations}
-use Rattle.schema_defs.specs.Schema.{Document}
+use Rattle.schema_defs.specs.Schema.{ListRules, Document}
 use Rattle.schema_defs.specs.Admits.{admits}
 use Rattle.schema_tree.specs.Document.{IsReadAs}
 use Rattle.distinct_names.specs.Names.{NamesDiffer}
@@ -15,7 +15,7 @@ use Rattle.naming_defs.specs.Names.{named_table}
 use Rattle.naming_defs.specs.Good.{is_good_name}
 use Rattle.naming_defs.specs.Laws.{IsFit, ShapeIsGood}
 use Rattle.convert_defs.specs.Row.{Way}
-use Rattle.convert_defs.specs.Proper.{IsProperDocument}
+use Rattle.convert_defs.specs.Proper.{AllAreProper, IsProperDocument}
 use Rattle.convert_defs.specs.Convert.{document_tree, table_of, notes_of}
 use Rattle.convert_defs.specs.Faults.{faults_of}
 use Rattle.convert_defs.specs.Laws.{Keeps, Free, AllNodes, Kept}
@@ -29,6 +29,13 @@ pub record WasRead (d : Document) : Type 0 where
 
 abbrev pub DocumentsAreProper : Type 0
 DocumentsAreProper = (d : Document) → WasRead d → IsProperDocument d
+
+-- fewer places than 2^32 are asked of a list
+abbrev pub AsksForFew : ListRules → Type 0
+AsksForFew rules = (n : ℕ) → rules.min_items ≡ Some n → n < 2 ^ 32
+
+abbrev pub DocumentsAreSized : Type 0
+DocumentsAreSized = (d : Document) → WasRead d → AllAreProper AsksForFew d
 
 -- without faults and without notes of one way
 pub record IsClean (way : Way) (r : Relations) (d : Document) (depth : ℕ) : Type 0 where

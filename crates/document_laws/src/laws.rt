@@ -1,10 +1,15 @@
 //! What holds of the conversion of documents that were read: each law is the contract of a function that does nothing.
 
-ghost use Rattle.document_laws.specs.Laws.{DocumentsAreProper, ReadDocumentsAgree, ReadDocumentsArePlanned, ReadPlansAgree, ReadRootsAgree, ReadTablesAreFit};
+ghost use Rattle.document_laws.specs.Laws.{DocumentsAreProper, DocumentsAreSized, ReadDocumentsAgree, ReadDocumentsArePlanned, ReadPlansAgree, ReadRootsAgree, ReadTablesAreFit};
 
 /// In a document that was read names differ and references lead.
 pub fn documents_are_proper()
     ensures { DocumentsAreProper }
+{}
+
+/// And fewer than 2^32 places are asked of a list.
+pub fn documents_are_sized()
+    ensures { DocumentsAreSized }
 {}
 
 /// Of a document that was read each schema of the conversion tree agrees with its entry, one way at a time.
