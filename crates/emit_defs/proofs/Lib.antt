@@ -8,6 +8,8 @@ pub mod Enum
 pub mod Level
 pub mod Reading
 pub mod Meaning
+pub mod Digits
 pub mod Spelling
 pub mod Boxed
 pub mod Named
+pub mod SoundTables

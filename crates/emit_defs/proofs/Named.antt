@@ -344,7 +344,7 @@ roots [] h = tt
 roots (e ∷ es) h = (h.0.0, roots es h.1)
 
 pub named_tables_are_formed : NamedTablesAreFormed
-named_tables_are_formed is_good t h few =
+named_tables_are_formed is_good t h =
     let beside = keys is_good t.targets in
     let n = named_table is_good t in
     let xs = targets_formed is_good beside [] t.targets (after_targets is_good beside [] t.targets) h.targets in
@@ -353,5 +353,4 @@ named_tables_are_formed is_good t h few =
       trees = roots n.trees es;
       items = all_among (items_of n) (λ i a. split i (map (λ x. x.led_to) n.targets ++ flat_map (λ x. items_in_shape x.led_to.shape) n.targets) (flat_map items_in n.trees)
           (split i (map (λ x. x.led_to) n.targets) (flat_map (λ x. items_in_shape x.led_to.shape) n.targets) (of_led n.targets xs i) (of_inner n.targets xs i)) (of_trees n.trees es i) a);
-      few = few;
     }

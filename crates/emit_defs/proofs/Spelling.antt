@@ -4,6 +4,7 @@ use Rattle.std.specs.Prelude.{nat_le}
 use Rattle.std.specs.Fmt.{decimal}
 use Rattle.std.proofs.lemmas.Bool.{le-leb}
 use Rattle.std.proofs.lemmas.Fmt.{decimal_by_steps}
+use Rattle.schema_defs.specs.Location.{place}
 use Rattle.schema_defs.specs.declared.Format.{Format}
 use Rattle.schema_defs.specs.declared.Format.TheVariants.{Uuid, Date, DateTime, Ip, Ipv4, Ipv6}
 use Rattle.syntax_trees.specs.Syntax.{TyD, ty_tuple, Tys, end_tys, more_tys}
@@ -12,6 +13,7 @@ use Rattle.entry_defs.specs.Entry.{IntegerName, i8, u8, i16, u16, i32, u32, i64,
 use Rattle.entry_defs.specs.Layer.{integer_range}
 use Rattle.emit_defs.specs.Models.{unboxed, used, type_again, type_model, type_models}
 use Rattle.emit_defs.specs.Trees.{lone, in_std, of_one, option_ty, boxed_ty, map_ty, integer_ty, native_ty, used_ty, ty_again, entry_ty, entry_tys}
+use Rattle.emit_defs.proofs.Digits.{place_by_steps}
 use Rattle.emit_defs.specs.Spelled.{IsFree, IsWritten, AreWritten, TypesAreSpelled}
 
 -- ---- numbers in decimal
@@ -55,6 +57,9 @@ digit_more n (x ∷ xs) l e =
 
 pub number_written : (n : ℕ) → n < 2 ^ 64 → number_of (decimal n) ≡ Some n
 number_written = decimal_by_steps (λ n ds. number_of ds ≡ Some n) one_digit digit_more
+
+pub place_written : (n : ℕ) → number_of (place n) ≡ Some n
+place_written = place_by_steps (λ n ds. number_of ds ≡ Some n) one_digit digit_more
 
 -- ---- types
 

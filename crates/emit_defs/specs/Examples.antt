@@ -223,7 +223,7 @@ pub record Emitted : Type 0 where
       ∷ codes "struct Root { # [ serde ( deserialize_with = \"typify_present::whole\" ) ] a : PhantomData , b : X , # [ serde ( default , deserialize_with = \"typify_present::some\" , skip_serializing_if = \"::std::option::Option::is_none\" ) ] c : :: std :: option :: Option < X > , }"
       ∷ [])
   pub of_alike : Prints alike (
-      codes "struct Root { a : ( Inner , Inner ) , b : ( Inner , Inner ) , # [ serde ( default , deserialize_with = \"typify_present::some\" , skip_serializing_if = \"::std::option::Option::is_none\" ) ] c : :: std :: option :: Option < ( Inner , Inner ) > , # [ serde ( flatten ) ] extra : :: std :: collections :: HashMap < :: std :: string :: String , bool > , }"
+      codes "struct Root { a : ( Inner , Inner , ) , b : ( Inner , Inner , ) , # [ serde ( default , deserialize_with = \"typify_present::some\" , skip_serializing_if = \"::std::option::Option::is_none\" ) ] c : :: std :: option :: Option < ( Inner , Inner , ) > , # [ serde ( flatten ) ] extra : :: std :: collections :: HashMap < :: std :: string :: String , bool > , }"
       ∷ codes "struct Inner { }"
       ∷ [])
   pub defaults_of_enums : default_values enums ≡ null ∷ value.boolean true ∷ []

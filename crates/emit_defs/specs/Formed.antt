@@ -1,7 +1,6 @@
 -- Tables as conversion makes them: what emission asks of each item, beside that the table is sound and names are good.
 use Rattle.std.specs.Prelude.{◌≡◌, ◌<◌, ◌^◌, ℕ, not, List, length, Bool, true, false, Option, Some, None, ⊤, bytes_eq}
 use Rattle.std.specs.List.{list_all, AllByRecursion}
-use Rattle.std.specs.Str.{IsUtf8}
 use Rattle.model_defs.specs.Model.{TagModel, external_tag, internal_tag, adjacent_tag, untagged, RuleD, text_rule, allow_rule, deny_rule}
 use Rattle.entry_defs.specs.Entry.{Target, Entry, text_entry, option_entry, vec_entry, set_entry, map_entry, tuple_entry, array_entry, Entries, no_entries, entry_then, entry_again, Shape, struct_shape, enum_shape, newtype_shape, Fields, no_fields, field_then, field_again, rest_field, Rest, no_rest, rest, rest_of, Variants, no_variants, variant_then, Contents, unit_contents, newtype_contents, tuple_contents, struct_contents, entries_of, fields_of}
 use Rattle.entry_defs.specs.Table.{Table, items_of}
@@ -9,7 +8,6 @@ use Rattle.entry_defs.specs.Sound.{Each, EachInShape, IsSound}
 use Rattle.naming_defs.specs.Good.{is_good_name}
 use Rattle.naming_defs.specs.Names.{named_table}
 use Rattle.naming_defs.specs.Laws.{ShapeIsGood}
-use Rattle.emit_defs.specs.Models.{conversions_of_items}
 
 abbrev pub HasOne : Entries → Type 0
 HasOne no_entries = ⊥
@@ -114,20 +112,17 @@ pub record IsShaped (t : Table) : Type 0 where
   pub trees : AllByRecursion (λ e. EntryIsFormed e × Each Shaped Anywhere e) t.trees
   pub targets : AllByRecursion (λ x. ShapeIsShaped x.led_to.shape × EachInShape Shaped Anywhere x.led_to.shape) t.targets
 
--- fewer defaults are stated than a u64 counts
+-- and after
 pub record IsFormed (t : Table) : Type 0 where
   pub trees : AllByRecursion EntryIsFormed t.trees
   pub items : AllByRecursion (λ i. ShapeIsFormed i.shape) (items_of t)
-  pub few : length (conversions_of_items (items_of t)).defaults < 2 ^ 64
 
 -- naming makes formed tables of shaped ones
 abbrev pub NamedTablesAreFormed : Type 0
-NamedTablesAreFormed =
-    (is_good : List ℕ → Bool) (t : Table) → IsShaped t → length (conversions_of_items (items_of (named_table is_good t))).defaults < 2 ^ 64 → IsFormed (named_table is_good t)
+NamedTablesAreFormed = (is_good : List ℕ → Bool) (t : Table) → IsShaped t → IsFormed (named_table is_good t)
 
--- sound, with good names that are texts, and formed
+-- sound, with good names, and formed
 pub record IsEmittable (t : Table) : Type 0 where
   pub sound : IsSound t
   pub named : AllByRecursion (λ i. (is_good_name i.name ≡ true) × ShapeIsGood is_good_name i.shape) (items_of t)
-  pub texts : AllByRecursion (λ i. IsUtf8 i.name) (items_of t)
   pub formed : IsFormed t

@@ -6,6 +6,7 @@ use Rattle.token_trees.specs.Text.{text_of}
 use Rattle.syntax_trees.specs.Syntax.{TyD, ty_array, ty_tuple, ty_path, path, SegmentD, segment, ArgumentsD, no_arguments, angle, arg_ty, ex_fixed, no_qself, Tys, end_tys, more_tys, segments_of, generics_of}
 use Rattle.syntax_trees.specs.Item.{MetaD, meta_list, FieldD, FieldsD, named_fields, unnamed_fields, unit_fields, VariantD, BodyD, struct_body, enum_body, ItemD}
 use Rattle.syntax_printing.specs.Print.{sign, keyword, print_ty}
+use Rattle.schema_defs.specs.Location.{place}
 use Rattle.schema_defs.specs.declared.Format.{Format}
 use Rattle.schema_defs.specs.declared.Format.TheVariants.{Uuid, Date, DateTime, Ip, Ipv4, Ipv6}
 use Rattle.model_defs.specs.Model.{TagModel, external_tag, internal_tag, adjacent_tag, untagged}
@@ -154,7 +155,7 @@ helper_meta h = valued (codes "deserialize_with") (codes "typify_present::" ++ h
 abbrev pub manner_metas : ℕ → Manner → List Carried
 manner_metas n plain = []
 manner_metas n whole = helper_meta (codes "whole") ∷ []
-manner_metas n defaulted = valued (codes "default") (codes "typify_defaults::d" ++ decimal n) ∷ []
+manner_metas n defaulted = valued (codes "default") (codes "typify_defaults::d" ++ place n) ∷ []
 manner_metas n (skipped x) = flag (codes "default") ∷ skip_meta x ∷ []
 manner_metas n held = flag (codes "default") ∷ helper_meta (codes "some") ∷ skip_meta empty_option ∷ []
 

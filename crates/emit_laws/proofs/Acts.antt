@@ -1,7 +1,6 @@
 -- What the metas of emitted fields and variants do.
-use Rattle.std.proofs.Common.{◌≡◌, ◌<◌, ◌^◌, ℕ, List, [], ◌∷◌, ◌++◌, map, Bool, true, false, refl, ap, ◌∙◌, codes, cond, bytes_eq}
+use Rattle.std.proofs.Common.{◌≡◌, ℕ, List, [], ◌∷◌, ◌++◌, map, Bool, true, false, refl, ap, ◌∙◌, codes, cond, bytes_eq}
 use Rattle.std.specs.Prelude.{Result}
-use Rattle.std.specs.Fmt.{decimal}
 use Rattle.token_trees.specs.Token.{Tok, fixed, text, Name, site}
 use Rattle.syntax_trees.specs.Syntax.{ExprPathD}
 use Rattle.syntax_trees.specs.Item.{FieldD, VariantD}
@@ -13,6 +12,7 @@ use Rattle.attr_defs.specs.Owners.{of_variant, of_field, whole, written, read}
 use Rattle.attr_defs.specs.Rows.{no_path, path_default_set, set_maybe, excess, unless_ended, acts_of, all_acts}
 use Rattle.attr_defs.specs.Steps.{Step, does, ◌>>=◌}
 use Rattle.attr_defs.specs.Texts.{lexed, parsed_by}
+use Rattle.schema_defs.specs.Location.{place}
 use Rattle.emit_defs.specs.Models as manners
 use Rattle.emit_defs.specs.Models.{Empty, empty_option, Manner, plain, defaulted, skipped, held}
 use Rattle.emit_defs.specs.Trees.{Carried, valued, serde, name_at, empty_path, skip_meta, rename_metas, manner_metas}
@@ -43,11 +43,6 @@ manner_acts n defaulted = default_at (is_default (path_default (default_function
 manner_acts n (skipped x) = default_at (is_default own_default) ∷ left_out_by x ∷ []
 manner_acts n held = default_at (is_default own_default) ∷ read_by some_function ∷ left_out_by empty_option ∷ []
 
--- the place of a default is below 2 ^ 64
-abbrev pub InReach : ℕ → Manner → Type 0
-InReach n defaulted = n < 2 ^ 64
-InReach n _ = Unit {0}
-
 -- what a meta with a function does, before others, where its text is read so
 abbrev function_acts : List ℕ → List ℕ → List ActD → Result ExprPathD SyntaxError → List ActD
 function_acts name x more r =
@@ -66,12 +61,12 @@ module _ (functions : FunctionsAreRead) (f : FieldD) (own : Name) where
   left_out_read : (x : Empty) → acts_in (skip_meta x ∷ []) ≡ left_out_by x ∷ []
   left_out_read x = ap (function_acts (codes "skip_serializing_if") (empty_path x) []) (functions.empty x)
 
-  pub manner_read : (n : ℕ) (m : Manner) → InReach n m → acts_in (manner_metas n m) ≡ manner_acts n m
-  manner_read n plain h = refl
-  manner_read n manners.whole h = ap (function_acts (codes "deserialize_with") (codes "typify_present::whole") []) functions.whole
-  manner_read n defaulted h = ap (default_acts (codes "typify_defaults::d" ++ decimal n)) (functions.default n h)
-  manner_read n (skipped x) h = ap (λ z. default_at (is_default own_default) ∷ z) (left_out_read x)
-  manner_read n held h =
+  pub manner_read : (n : ℕ) (m : Manner) → acts_in (manner_metas n m) ≡ manner_acts n m
+  manner_read n plain = refl
+  manner_read n manners.whole = ap (function_acts (codes "deserialize_with") (codes "typify_present::whole") []) functions.whole
+  manner_read n defaulted = ap (default_acts (codes "typify_defaults::d" ++ place n)) (functions.default n)
+  manner_read n (skipped x) = ap (λ z. default_at (is_default own_default) ∷ z) (left_out_read x)
+  manner_read n held =
       ap (λ r. default_at (is_default own_default) ∷ function_acts (codes "deserialize_with") (codes "typify_present::some") (acts_in (skip_meta empty_option ∷ [])) r) functions.some
       ∙ ap (λ z. default_at (is_default own_default) ∷ read_by some_function ∷ z) (left_out_read empty_option)
 
@@ -80,12 +75,12 @@ module _ (functions : FunctionsAreRead) (f : FieldD) (own : Name) where
   named_read true i x ms e = ap (λ b. acts_in (cond b [] (valued (codes "rename") x ∷ []) ++ ms)) e
   named_read false i x ms e = ap (λ b. acts_in (cond b [] (valued (codes "rename") x ∷ []) ++ ms)) e
 
-  pub field_read : (b : Bool) (i x : List ℕ) (n : ℕ) (m : Manner) → bytes_eq i x ≡ b → InReach n m
+  pub field_read : (b : Bool) (i x : List ℕ) (n : ℕ) (m : Manner) → bytes_eq i x ≡ b
       → all_acts lexed (of_field f own) (serde (rename_metas i x ++ manner_metas n m)) ≡ rename_acts b x ++ manner_acts n m
-  field_read b i x n m e h =
+  field_read b i x n m e =
       acts_read lexed (of_field f own) (rename_metas i x ++ manner_metas n m)
       ∙ named_read b i x (manner_metas n m) e
-      ∙ ap (λ z. rename_acts b x ++ z) (manner_read n m h)
+      ∙ ap (λ z. rename_acts b x ++ z) (manner_read n m)
 
 -- ---- variants carry a name alone
 

@@ -131,7 +131,6 @@ module _ (functions : FunctionsAreRead) (types : TypesAreReadAgain) (t : Table) 
           formed = formed;
           each = each;
           within = r;
-          few = h.formed.few;
           alone = one_named i.name (named_items t) h.sound.distinct (item_named t h i a).known;
           ruled = ruled (items_of t) h.sound.distinct i a;
           means = ty.means;
@@ -141,16 +140,12 @@ module _ (functions : FunctionsAreRead) (types : TypesAreReadAgain) (t : Table) 
   module _ (variant_name field_name : Meaning) (private : Name) (derive : Derive) where
     one_made : (m : ℕ) (i : ItemEntry) (k : Ready m i) → container_of lexed variant_name field_name private (item_tree s m i) ≡ Some (made_container s i.name k.u m i.shape)
     one_made m i k =
-        let within = k.stands.within in
-        let few = k.stands.few in
-        container_made s i.name k.u m variant_name field_name private functions i.shape k.is_read k.fits (omega arith)
+        container_made s i.name k.u m variant_name field_name private functions i.shape k.is_read k.fits
 
     one_untold : (m : ℕ) (i : ItemEntry) → Ready m i → diagnostics_of lexed variant_name field_name private (item_tree s m i) derive ≡ []
     one_untold m i k =
-        let within = k.stands.within in
-        let few = k.stands.few in
         let attributes = attributes_untold s i.name k.u m i.shape k.is_read k.tags in
-        let members = members_untold functions s i.name i.shape m (omega arith) in
+        let members = members_untold functions s i.name i.shape m in
         let last = ap (told_at_last derive (item_tree s m i)) (one_made m i k) ∙ checks_untold s i.name k.u i.shape m derive k.stands.formed in
         λ j. attributes j ++ (members j ++ last j)
 
@@ -159,9 +154,7 @@ module _ (functions : FunctionsAreRead) (types : TypesAreReadAgain) (t : Table) 
 
     one_read : (m : ℕ) (i : ItemEntry) → Ready m i → item_model lexed variant_name field_name private (item_tree s m i) derive ≡ Some (model_of_item s m i)
     one_read m i k =
-        let within = k.stands.within in
-        let few = k.stands.few in
-        ap (λ o. option_map reader_model (option_map (marked derive) o)) (one_made m i k) ∙ ap Some (container_read t i.name k.u m i.shape derive k.stands.formed k.stands.each (omega arith))
+        ap (λ o. option_map reader_model (option_map (marked derive) o)) (one_made m i k) ∙ ap Some (container_read t i.name k.u m i.shape derive k.stands.formed k.stands.each)
 
     -- ---- all items
 

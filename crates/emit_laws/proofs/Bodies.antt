@@ -1,5 +1,5 @@
 -- The fields of items and of variants as they are read.
-use Rattle.std.proofs.Common.{◌≡◌, ◌≤◌, ◌^◌, ◌+◌, ℕ, suc, List, [], ◌∷◌, ◌++◌, map, length, Bool, true, false, not, refl, ap, ◌∙◌, Some, None, bytes_eq, codes, length-append, arith}
+use Rattle.std.proofs.Common.{◌≡◌, ℕ, suc, List, [], ◌∷◌, ◌++◌, map, Bool, true, false, not, refl, ap, ◌∙◌, Some, None, bytes_eq, codes}
 use Rattle.std.specs.List.{AllByRecursion}
 use Rattle.std.specs.Fmt.{decimal}
 use Rattle.std.specs.declared.cmp.Ordering.{Ordering}
@@ -21,25 +21,14 @@ use Rattle.container_defs.specs.declared.style.Style.TheVariants.{Struct, Tuple,
 use Rattle.container_defs.specs.Container.{ReadField, ReadVariant}
 use Rattle.container_defs.specs.Reading as reading
 use Rattle.container_defs.specs.Reading.{fields_from, variant_of, unnamed_style, style_of, name_field, name_variant}
-use Rattle.entry_defs.specs.Entry.{State, required, optional, stated, Entry, option_entry, vec_entry, set_entry, map_entry, Entries, no_entries, entry_then, entry_again, Rest, no_rest, rest, Contents, unit_contents, newtype_contents, tuple_contents, struct_contents, Fields, FieldEntry, VariantEntry, fields_of, rest_of}
+use Rattle.entry_defs.specs.Entry.{Entry, Entries, no_entries, entry_then, entry_again, Rest, no_rest, rest, Contents, unit_contents, newtype_contents, tuple_contents, struct_contents, Fields, FieldEntry, VariantEntry, fields_of, rest_of}
 use Rattle.emit_defs.specs.Formed.{HasOne, HasTwo}
 use Rattle.emit_defs.specs.Setting.{Setting}
-use Rattle.emit_defs.specs.Models.{unboxed, plain, manner, state_defaults, field_defaults, contents_defaults, field_manner, after_state, after_contents}
+use Rattle.emit_defs.specs.Models.{unboxed, plain, field_manner, after_state, after_contents}
 use Rattle.emit_defs.specs.Trees.{flag, name_at, serde, manner_ty, map_ty, text_ty, ty_again, entry_ty, entry_tys, used_tree, unnamed_field, unnamed_fields_of, field_tree, field_trees, rest_trees, struct_trees, contents_tree, variant_tree}
 use Rattle.emit_texts.specs.Laws.{FunctionsAreRead}
-use Rattle.emit_laws.proofs.Acts.{rename_acts, InReach, variant_read}
+use Rattle.emit_laws.proofs.Acts.{rename_acts, variant_read}
 use Rattle.emit_laws.proofs.Fields.{no_rules, both_names, itself, made, field_made, rest_made}
-
--- where a default is stated, its place is below 2 ^ 64
-pub reach_of : (l : Bool) (st : State) (e : Entry) (n : ℕ) → n + length (state_defaults st) ≤ 2 ^ 64 → InReach n (manner l st e)
-reach_of true required e n h = tt
-reach_of false required e n h = tt
-reach_of l (stated v) e n h = omega arith
-reach_of l optional (option_entry e) n h = tt
-reach_of l optional (vec_entry e) n h = tt
-reach_of l optional (set_entry e) n h = tt
-reach_of l optional (map_entry k e) n h = tt
-reach_of l optional _ n h = tt
 
 abbrev pub made_place : ℕ → TyD → ReadField
 made_place i t = made (unnamed i) (both_names false (name_at (decimal i))) false 0 plain (unnamed_field t)
@@ -171,24 +160,23 @@ module _ (s : Setting) (owner : List ℕ) where
     rest_read (rest i e) index h = ap (λ z. z ∷ []) (rest_made variant_name field_name private i (map_ty text_ty (entry_ty s.name unboxed e)) index h)
 
     module _ (functions : FunctionsAreRead) where
-      fields_made : (fs : List FieldEntry) (o : Rest) (n index : ℕ) → ArePlain fs → RestIsPlain o → n + length (field_defaults fs) ≤ 2 ^ 64
+      fields_made : (fs : List FieldEntry) (o : Rest) (n index : ℕ) → ArePlain fs → RestIsPlain o
           → read_all index (field_trees s owner n fs ++ rest_trees s owner o) ≡ made_fields n fs ++ made_rest o
-      fields_made [] o n index h k r = rest_read o index k
-      fields_made (f ∷ fs) o n index h k r =
-          let long = length-append (state_defaults f.state) (field_defaults fs) in
-          let one = field_made variant_name field_name private functions f.identifier f.name (manner_ty (field_manner s owner f) (used_tree s owner f.entry)) index n (field_manner s owner f) h.0 (reach_of (s.leads f.entry) f.state f.entry n (omega arith)) in
-          let rec = fields_made fs o (after_state f.state n) (suc index) h.1 k (omega arith) in
+      fields_made [] o n index h k = rest_read o index k
+      fields_made (f ∷ fs) o n index h k =
+          let one = field_made variant_name field_name private functions f.identifier f.name (manner_ty (field_manner s owner f) (used_tree s owner f.entry)) index n (field_manner s owner f) h.0 in
+          let rec = fields_made fs o (after_state f.state n) (suc index) h.1 k in
           λ i. one i ∷ rec i
 
-      pub struct_made : (fs : Fields) (n : ℕ) → ArePlain (fields_of fs) → RestIsPlain (rest_of fs) → n + length (field_defaults (fields_of fs)) ≤ 2 ^ 64
+      pub struct_made : (fs : Fields) (n : ℕ) → ArePlain (fields_of fs) → RestIsPlain (rest_of fs)
           → read_all 0 (struct_trees s owner n fs) ≡ made_struct n fs
-      struct_made fs n h k r = fields_made (fields_of fs) (rest_of fs) n 0 h k r
+      struct_made fs n h k = fields_made (fields_of fs) (rest_of fs) n 0 h k
 
-      contents_made : (c : Contents) (n : ℕ) → ContentsArePlain c → n + length (contents_defaults c) ≤ 2 ^ 64 → read_all 0 (reading.each_of (contents_tree s owner n c)) ≡ made_contents n c
-      contents_made unit_contents n h r = refl
-      contents_made (newtype_contents e) n h r = refl
-      contents_made (tuple_contents es) n h r = places_made (entry_tys s.name (s.is_boxed owner) es) 0
-      contents_made (struct_contents fs) n h r = struct_made fs n h.0 h.1 r
+      contents_made : (c : Contents) (n : ℕ) → ContentsArePlain c → read_all 0 (reading.each_of (contents_tree s owner n c)) ≡ made_contents n c
+      contents_made unit_contents n h = refl
+      contents_made (newtype_contents e) n h = refl
+      contents_made (tuple_contents es) n h = places_made (entry_tys s.name (s.is_boxed owner) es) 0
+      contents_made (struct_contents fs) n h = struct_made fs n h.0 h.1
 
     -- ---- variants
 
@@ -223,12 +211,12 @@ module _ (s : Setting) (owner : List ℕ) where
     fields_by v false x = refl
 
     pub variant_made : FunctionsAreRead → (n : ℕ) (w : VariantEntry)
-        → unraw w.identifier ≡ w.identifier → ContentsArePlain w.contents → HasStyle w.contents → n + length (contents_defaults w.contents) ≤ 2 ^ 64
+        → unraw w.identifier ≡ w.identifier → ContentsArePlain w.contents → HasStyle w.contents
         → whole_by (variant_tree s owner n w) (variant_acts lexed (variant_tree s owner n w)) ≡ made_variant n w
-    variant_made functions n w h k q r =
+    variant_made functions n w h k q =
         let v = variant_tree s owner n w in
         let eq = bytes_eq w.identifier w.name in
-        let fields = contents_made functions w.contents n k r in
+        let fields = contents_made functions w.contents n k in
         let style = style_made n w.contents q in
         ap (whole_by v) (variant_read v eq w.identifier w.name refl)
         ∙ fields_by v eq w.name

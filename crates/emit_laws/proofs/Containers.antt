@@ -1,7 +1,6 @@
 -- Items as they are read.
-use Rattle.std.proofs.Common.{◌≡◌, ◌≤◌, ◌^◌, ◌+◌, ℕ, List, [], ◌∷◌, ◌++◌, map, length, Bool, true, false, not, refl, ap, ◌∙◌, codes, length-append, arith}
+use Rattle.std.proofs.Common.{◌≡◌, ℕ, List, [], ◌∷◌, ◌++◌, map, Bool, true, false, not, refl, ap, ◌∙◌, codes}
 use Rattle.std.specs.Prelude.{Option, Some, None, option_map, Result, Ok}
-use Rattle.std.specs.List.{flat_map}
 use Rattle.token_trees.specs.Token.{Tok, Name, site}
 use Rattle.token_trees.specs.Text.{text_of}
 use Rattle.syntax_trees.specs.Syntax.{TyD}
@@ -28,7 +27,7 @@ use Rattle.entry_defs.specs.Entry.{Shape, struct_shape, enum_shape, newtype_shap
 use Rattle.entry_defs.specs.Table.{ItemEntry}
 use Rattle.emit_defs.specs.Formed.{TagFits, StandBeside}
 use Rattle.emit_defs.specs.Setting.{Setting, ends_in_phantom}
-use Rattle.emit_defs.specs.Models.{contents_defaults, shape_defaults, after_contents, is_transparent, is_closed}
+use Rattle.emit_defs.specs.Models.{after_contents, is_transparent, is_closed}
 use Rattle.emit_defs.specs.Trees.{Carried, flag, serde, when, name_at, used_tree, item_metas, shape_tree, variant_trees, item_tree}
 use Rattle.emit_texts.specs.Laws.{literal, FunctionsAreRead}
 use Rattle.emit_laws.proofs.Metas.{as_part, acts_read}
@@ -231,24 +230,23 @@ module _ (s : Setting) (n : List ℕ) (u : TyD) where
           option_map (λ d. record { name = i.name; attrs = a; body = name_data variant_name field_name a d; params = i.params; predicates = i.predicates; original = i }) (data_of lexed private a.default i.body)
 
       module _ (functions : FunctionsAreRead) where
-        variants_made : (closed : Bool) (tag : TagD) (ws : Variants) (k : ℕ) → VariantsFit ws → k + length (flat_map (λ w. contents_defaults w.contents) (variants_of ws)) ≤ 2 ^ 64
+        variants_made : (closed : Bool) (tag : TagD) (ws : Variants) (k : ℕ) → VariantsFit ws
             → map (name_variant variant_name field_name (container_attrs_of (record { text = unraw n; span = site }) false closed tag None)) (map (variant_of lexed private no_default) (variant_trees s n k (variants_of ws))) ≡ made_variants s n k (variants_of ws)
-        variants_made closed tag no_variants k f r = refl
-        variants_made closed tag (variant_then i x c ws) k f r =
-            let long = length-append (contents_defaults c) (flat_map (λ w. contents_defaults w.contents) (variants_of ws)) in
-            let one = variant_made s n variant_name field_name private functions k (record { identifier = i; name = x; contents = c }) f.0 f.1 f.2 (omega arith) in
-            let rec = variants_made closed tag ws (after_contents c k) f.3 (omega arith) in
+        variants_made closed tag no_variants k f = refl
+        variants_made closed tag (variant_then i x c ws) k f =
+            let one = variant_made s n variant_name field_name private functions k (record { identifier = i; name = x; contents = c }) f.0 f.1 f.2 in
+            let rec = variants_made closed tag ws (after_contents c k) f.3 in
             λ j. one j ∷ rec j
 
-        body_made : (h : Shape) → ShapeFits h → m + length (shape_defaults h) ≤ 2 ^ 64 → by_attrs (tree h) (made_attrs h) ≡ Some (made_container h)
-        body_made (struct_shape closed fs) f r =
-            ap (λ z. Some (record (made_container (struct_shape closed fs)) { body = read_struct Struct z })) (struct_made s n variant_name field_name private functions fs m f.0 f.1 r)
-        body_made (newtype_shape e rule) f r = refl
-        body_made (enum_shape closed tag ws) f r =
-            ap (λ z. Some (record (made_container (enum_shape closed tag ws)) { body = read_enum z })) (variants_made closed (tag_read tag) ws m f r)
+        body_made : (h : Shape) → ShapeFits h → by_attrs (tree h) (made_attrs h) ≡ Some (made_container h)
+        body_made (struct_shape closed fs) f =
+            ap (λ z. Some (record (made_container (struct_shape closed fs)) { body = read_struct Struct z })) (struct_made s n variant_name field_name private functions fs m f.0 f.1)
+        body_made (newtype_shape e rule) f = refl
+        body_made (enum_shape closed tag ws) f =
+            ap (λ z. Some (record (made_container (enum_shape closed tag ws)) { body = read_enum z })) (variants_made closed (tag_read tag) ws m f)
 
-        pub container_made : (h : Shape) → TypeIsRead h → ShapeFits h → m + length (shape_defaults h) ≤ 2 ^ 64 → container_of lexed variant_name field_name private (tree h) ≡ Some (made_container h)
-        container_made h t f r =
+        pub container_made : (h : Shape) → TypeIsRead h → ShapeFits h → container_of lexed variant_name field_name private (tree h) ≡ Some (made_container h)
+        container_made h t f =
             ap (λ acts. by_attrs (tree h) (container_from (tree h) (values_of acts))) (acts_made h t)
             ∙ ap (by_attrs (tree h)) (attrs_made h)
-            ∙ body_made h f r
+            ∙ body_made h f

@@ -27,7 +27,7 @@ use Rattle.emit_defs.specs.Models as manners
 use Rattle.emit_defs.specs.Models.{Empty, empty_option, Manner, plain, defaulted, skipped, held}
 use Rattle.emit_defs.specs.Trees.{Carried, flag, name_at, serde, rename_metas, manner_metas, unnamed_field}
 use Rattle.emit_texts.specs.Laws.{some_function, whole_function, default_function, empty_function, FunctionsAreRead}
-use Rattle.emit_laws.proofs.Acts.{rename_acts, manner_acts, InReach, field_read}
+use Rattle.emit_laws.proofs.Acts.{rename_acts, manner_acts, field_read}
 
 abbrev pub no_rules : RenameAllRules
 no_rules = record { serialize = rules.None; deserialize = rules.None }
@@ -125,13 +125,13 @@ module _ (variant_name field_name : Meaning) (private : Name) where
   abbrev read_at : ℕ → FieldD → ReadField
   read_at index f = name_field variant_name field_name no_rules (field_of lexed private no_default None index f)
 
-  pub field_made : FunctionsAreRead → (i x : List ℕ) (t : TyD) (index n : ℕ) (m : Manner) → unraw i ≡ i → InReach n m
+  pub field_made : FunctionsAreRead → (i x : List ℕ) (t : TyD) (index n : ℕ) (m : Manner) → unraw i ≡ i
       → read_at index (with_name (rename_metas i x ++ manner_metas n m) i t)
       ≡ made (named (name_at i)) (both_names (not (bytes_eq i x)) (name_at x)) false n m (with_name (rename_metas i x ++ manner_metas n m) i t)
-  field_made functions i x t index n m h r =
+  field_made functions i x t index n m h =
       let ms = rename_metas i x ++ manner_metas n m in
       let f = with_name ms i t in
-      ap (λ acts. record { member = named (name_at i); attrs = from_acts f index acts; ty = t; original = f }) (field_read functions f (record { text = unraw i; span = site }) (bytes_eq i x) i x n m refl r)
+      ap (λ acts. record { member = named (name_at i); attrs = from_acts f index acts; ty = t; original = f }) (field_read functions f (record { text = unraw i; span = site }) (bytes_eq i x) i x n m refl)
       ∙ ap (λ a. record { member = named (name_at i); attrs = a; ty = t; original = f }) (by_name ms i x t index n m (bytes_eq i x) refl h)
 
   pub rest_made : (i : List ℕ) (t : TyD) (index : ℕ) → unraw i ≡ i

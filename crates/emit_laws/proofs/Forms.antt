@@ -17,6 +17,7 @@ use Rattle.container_defs.specs.Reader.{written_so}
 use Rattle.schema_defs.specs.declared.Format.{Format}
 use Rattle.schema_defs.specs.declared.Format.TheVariants.{Uuid, Date, DateTime, Ip, Ipv4, Ipv6}
 use Rattle.schema_defs.specs.Integers.{Range}
+use Rattle.schema_defs.specs.Location.{place}
 use Rattle.model_defs.specs.Types.{TypeModel, TypeModels, no_types, type_then, boolean_type, integer_type, text_type, native_type, any_type, unit_type, option_type, boxed_type, vec_type, set_type, map_type, tuple_type, array_type, item_type, outside_type}
 use Rattle.model_defs.specs.Model.{ConversionsD}
 use Rattle.model_defs.proofs.Flat.{and_first, and_second, and_true, not_true}
@@ -30,7 +31,7 @@ use Rattle.emit_defs.specs.Formed.{Lacks, ContentsAreFormed, StandBeside, TagFit
 use Rattle.emit_defs.specs.Setting.{Setting, setting_of}
 use Rattle.emit_defs.specs.Models.{manner, state_defaults, after_state, after_contents}
 use Rattle.emit_defs.specs.Trees.{ty_again, entry_tys}
-use Rattle.emit_defs.proofs.Spelling.{number_written}
+use Rattle.emit_defs.proofs.Spelling.{place_written}
 use Rattle.emit_laws.proofs.Fields.{default_of}
 use Rattle.emit_laws.proofs.Bodies.{made_places, made_fields, made_rest, made_contents, made_variants}
 use Rattle.emit_laws.proofs.Checks.{or_false, in_contents}
@@ -211,19 +212,19 @@ module _ (t : Table) (n : List ℕ) where
 
   -- ---- stated defaults
 
-  pub stated_fits : (l : Bool) (st : State) (e : Entry) (k N : ℕ) → N < 2 ^ 64 → k + length (state_defaults st) ≤ N → (items : List (List ℕ)) (cs : ConversionsD) → length cs.defaults ≡ N
+  pub stated_fits : (l : Bool) (st : State) (e : Entry) (k N : ℕ) → k + length (state_defaults st) ≤ N → (items : List (List ℕ)) (cs : ConversionsD) → length cs.defaults ≡ N
       → is_stated_elsewhere items cs (default_of k (manner l st e)) ≡ false
-  stated_fits true required e k N b r items cs h = refl
-  stated_fits false required e k N b r items cs h = refl
-  stated_fits l (stated v) e k N b r items cs h =
-      ap (λ o. not (holds (λ m. nat_lt m (length cs.defaults)) (written_so (decimal k) o))) (number_written k (omega arith))
-      ∙ ap (λ q. not (holds (λ m. nat_lt m (length cs.defaults)) (cond q (Some k) None))) (bytes_itself (decimal k))
+  stated_fits true required e k N r items cs h = refl
+  stated_fits false required e k N r items cs h = refl
+  stated_fits l (stated v) e k N r items cs h =
+      ap (λ o. not (holds (λ m. nat_lt m (length cs.defaults)) (written_so (place k) o))) (place_written k)
+      ∙ ap (λ q. not (holds (λ m. nat_lt m (length cs.defaults)) (cond q (Some k) None))) (bytes_itself (place k))
       ∙ ap not (lt-ltb k (length cs.defaults) (omega arith))
-  stated_fits l optional (option_entry e) k N b r items cs h = refl
-  stated_fits l optional (vec_entry e) k N b r items cs h = refl
-  stated_fits l optional (set_entry e) k N b r items cs h = refl
-  stated_fits l optional (map_entry x e) k N b r items cs h = refl
-  stated_fits l optional _ k N b r items cs h = refl
+  stated_fits l optional (option_entry e) k N r items cs h = refl
+  stated_fits l optional (vec_entry e) k N r items cs h = refl
+  stated_fits l optional (set_entry e) k N r items cs h = refl
+  stated_fits l optional (map_entry x e) k N r items cs h = refl
+  stated_fits l optional _ k N r items cs h = refl
 
   -- ---- styles beside tags
 

@@ -1,5 +1,5 @@
 -- No cause puts an emitted item outside the forms that the reader of values reads.
-use Rattle.std.proofs.Common.{◌≡◌, ◌<◌, ◌≤◌, ◌^◌, ◌+◌, ◌&&◌, ◌||◌, ℕ, List, [], ◌∷◌, length, Bool, true, false, not, refl, ap, ◌∙◌, Some, None, bytes_eq}
+use Rattle.std.proofs.Common.{◌≡◌, ◌≤◌, ◌+◌, ◌&&◌, ◌||◌, ℕ, List, [], ◌∷◌, length, Bool, true, false, not, refl, ap, ◌∙◌, Some, None, bytes_eq}
 use Rattle.std.specs.Prelude.{is_some, filter}
 use Rattle.std.specs.Fmt.{decimal}
 use Rattle.std.specs.List.{list_any}
@@ -50,7 +50,6 @@ module _ (t : Table) (n : List ℕ) (u : TyD) (m : ℕ) where
     pub formed : ShapeIsFormed h
     pub each : EachInShape (P t) (Q t) h
     pub within : m + length (shape_defaults h) ≤ length cs.defaults
-    pub few : length cs.defaults < 2 ^ 64
     pub alone : is_one (filter (bytes_eq n) (named_items t)) ≡ true
     pub ruled : of_name n cs.constraints ≡ item_constraints (record { name = n; shape = h })
     pub means : TypeMeans h
@@ -102,7 +101,7 @@ module _ (t : Table) (n : List ℕ) (u : TyD) (m : ℕ) where
     defaults : forms.has_unknown_default (named_items t) cs (C h) ≡ false
     defaults =
         body_passes t n (length cs.defaults) (λ f. is_stated_elsewhere (named_items t) cs f.attrs.default)
-        (λ l f x r. stated_fits t n (s.leads f.entry) f.state f.entry l (length cs.defaults) k.few r (named_items t) cs refl) (λ i e x. refl) (λ i ty x. refl) u h m k.formed k.each k.within
+        (λ l f x r. stated_fits t n (s.leads f.entry) f.state f.entry l (length cs.defaults) r (named_items t) cs refl) (λ i e x. refl) (λ i ty x. refl) u h m k.formed k.each k.within
 
     odd_rests : forms.has_odd_rest (C h) ≡ false
     odd_rests =

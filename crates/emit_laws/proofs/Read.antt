@@ -1,8 +1,7 @@
 -- What the reader of values makes of an emitted item is the container that is meant.
-use Rattle.std.proofs.Common.{◌≡◌, ◌≤◌, ◌^◌, ◌+◌, ◌&&◌, ℕ, suc, List, [], ◌∷◌, ◌++◌, map, length, Bool, true, false, not, cond, refl, sym, ap, ◌∙◌, Some, None, length-append, arith}
+use Rattle.std.proofs.Common.{◌≡◌, ◌&&◌, ℕ, suc, List, [], ◌∷◌, ◌++◌, map, Bool, true, false, not, cond, refl, sym, ap, ◌∙◌, Some, None}
 use Rattle.std.specs.Prelude.{is_some}
-use Rattle.std.specs.List.{flat_map, AllByRecursion}
-use Rattle.std.specs.Fmt.{decimal}
+use Rattle.std.specs.List.{AllByRecursion}
 use Rattle.syntax_trees.specs.Syntax.{TyD, ty_tuple, Tys, end_tys, more_tys}
 use Rattle.attr_parts.specs.declared.derive.Derive.{Derive}
 use Rattle.attr_parts.specs.Values.{external}
@@ -12,6 +11,7 @@ use Rattle.container_defs.specs.Container.{ReadData, read_struct}
 use Rattle.container_defs.specs.Forms.{is_known, are_known}
 use Rattle.container_defs.specs.Reader as reader
 use Rattle.container_defs.specs.Reader.{written_so, default_at, default_model, helper_of, field_model, style_model, tag_model, body_model, reader_model}
+use Rattle.schema_defs.specs.Location.{place}
 use Rattle.model_defs.specs.Types.{TypeModel, TypeModels, no_types, type_then, types_of, type_of, option_type, boxed_type, item_type, map_type, text_type}
 use Rattle.model_defs.specs.Model as model
 use Rattle.model_defs.specs.Model.{struct_style, newtype_style, external_tag, internal_tag, adjacent_tag, TagModel, FieldModel, struct_model, enum_model}
@@ -23,13 +23,12 @@ use Rattle.emit_defs.specs.Formed.{HasOne, EntryIsFormed, EntriesAreFormed, Fiel
 use Rattle.emit_defs.specs.Setting.{Setting, setting_of, ends_in_phantom}
 use Rattle.emit_defs.specs.Spelled.{IsSome, IsWritten, AreWritten}
 use Rattle.emit_defs.specs.Models as manners
-use Rattle.emit_defs.specs.Models.{unboxed, used, type_again, type_model, type_models, used_type, Manner, plain, defaulted, skipped, held, manner_type, manner_default, manner_helper, manner_skip, unnamed_model, unnamed_models, field_manner, field_models, rest_models, struct_models, contents_style, contents_models, variant_models, shape_body, state_defaults, field_defaults, contents_defaults, shape_defaults, after_state, after_contents, is_transparent, is_closed, has_rule, model_of_item}
+use Rattle.emit_defs.specs.Models.{unboxed, used, type_again, type_model, type_models, used_type, Manner, plain, defaulted, skipped, held, manner_type, manner_default, manner_helper, manner_skip, unnamed_model, unnamed_models, field_manner, field_models, rest_models, struct_models, contents_style, contents_models, variant_models, shape_body, after_state, after_contents, is_transparent, is_closed, has_rule, model_of_item}
 use Rattle.emit_defs.specs.Trees.{option_ty, map_ty, text_ty, manner_ty, entry_ty, entry_tys, used_tree}
-use Rattle.emit_defs.proofs.Spelling.{number_written, option_spelled, map_spelled, no_utc, types_spelled, places_of, tuple_step, entries_spelled}
+use Rattle.emit_defs.proofs.Spelling.{place_written, option_spelled, map_spelled, no_utc, types_spelled, places_of, tuple_step, entries_spelled}
 use Rattle.emit_texts.specs.Laws.{NamesAreGood, AllNamesAreGood}
-use Rattle.emit_laws.proofs.Acts.{InReach}
 use Rattle.emit_laws.proofs.Fields.{skip_of, default_of, reader_of}
-use Rattle.emit_laws.proofs.Bodies.{reach_of, read_style, made_place, made_places, made_field, made_fields, made_rest, made_struct, made_contents, made_variants}
+use Rattle.emit_laws.proofs.Bodies.{read_style, made_place, made_places, made_field, made_fields, made_rest, made_struct, made_contents, made_variants}
 use Rattle.emit_laws.proofs.Containers.{tag_read, made_attrs, made_body, made_container}
 use Rattle.emit_laws.proofs.Whole.{IsNamed}
 use Rattle.emit_laws.proofs.Words.{free}
@@ -76,8 +75,8 @@ module _ (t : Table) where
     good_names (map_entry k e) x = (good_names k x.0, good_names e x.1)
     good_names (tuple_entry es) x = all_good es x
     good_names (array_entry e n) x = good_names e x
-    good_names (reference q) x = (x.good, x.utf8)
-    good_names (item n h) x = (x.0.good, x.0.utf8)
+    good_names (reference q) x = x.good
+    good_names (item n h) x = x.0.good
     good_names _ x = tt
 
     all_good : (es : Entries) → EachEntry P Q es → AllNamesAreGood (target_name t) es
@@ -118,13 +117,12 @@ module _ (t : Table) where
 
 -- ---- manners
 
-default_read : (n : ℕ) (m : Manner) → InReach n m → default_model (default_of n m) ≡ manner_default m n
-default_read n plain h = refl
-default_read n manners.whole h = refl
-default_read n defaulted h =
-    ap (λ o. default_at (written_so (decimal n) o)) (number_written n h) ∙ ap (λ b. default_at (cond b (Some n) None)) (bytes_itself (decimal n))
-default_read n (skipped x) h = refl
-default_read n held h = refl
+default_read : (n : ℕ) (m : Manner) → default_model (default_of n m) ≡ manner_default m n
+default_read n plain = refl
+default_read n manners.whole = refl
+default_read n defaulted = ap (λ o. default_at (written_so (place n) o)) (place_written n) ∙ ap (λ b. default_at (cond b (Some n) None)) (bytes_itself (place n))
+default_read n (skipped x) = refl
+default_read n held = refl
 
 helper_read : (m : Manner) → helper_of (reader_of m) ≡ manner_helper m
 helper_read plain = refl
@@ -177,11 +175,11 @@ module _ (t : Table) (n : List ℕ) where
   pub type_read : (k : ℕ) (f : FieldEntry) → FieldFits f → type_of (manner_ty (field_manner s n f) (used_tree s n f.entry)) ≡ manner_type (field_manner s n f) (used_type s n f.entry)
   type_read k f x = manner_spelled (field_manner s n f) (used_tree s n f.entry) (used_type s n f.entry) (spelled f.entry x.0 x.1) (option_spelled (used_tree s n f.entry) (no_utc s.name (s.is_boxed n) f.entry))
 
-  field_read : (k : ℕ) (f : FieldEntry) → FieldFits f → k + length (state_defaults f.state) ≤ 2 ^ 64 → field_model (made_field s n k f) ≡ manners.field_model s n k f
-  field_read k f x r =
+  field_read : (k : ℕ) (f : FieldEntry) → FieldFits f → field_model (made_field s n k f) ≡ manners.field_model s n k f
+  field_read k f x =
       let m = field_manner s n f in
       let kind = type_read k f x in
-      let default = default_read k m (reach_of (s.leads f.entry) f.state f.entry k r) in
+      let default = default_read k m in
       let helper = helper_read m in
       let skip = skip_read m in
       λ i. record { has_name = true; serialize_name = f.name; deserialize_names = f.name ∷ []; field_type = kind i; default = default i; helper = helper i; skip = skip i; is_rest = false }
@@ -201,13 +199,12 @@ module _ (t : Table) (n : List ℕ) where
   abbrev pub FieldsFit : List FieldEntry → Type 0
   FieldsFit fs = AllByRecursion FieldFits fs
 
-  fields_read : (fs : List FieldEntry) (o : Rest) (k : ℕ) → FieldsFit fs → RestFits o → k + length (field_defaults fs) ≤ 2 ^ 64
+  fields_read : (fs : List FieldEntry) (o : Rest) (k : ℕ) → FieldsFit fs → RestFits o
       → map field_model (made_fields s n k fs ++ made_rest s n o) ≡ field_models s n k fs ++ rest_models s n o
-  fields_read [] o k x y r = rest_read o y
-  fields_read (f ∷ fs) o k x y r =
-      let long = length-append (state_defaults f.state) (field_defaults fs) in
-      let one = field_read k f x.0 (omega arith) in
-      let rec = fields_read fs o (after_state f.state k) x.1 y (omega arith) in
+  fields_read [] o k x y = rest_read o y
+  fields_read (f ∷ fs) o k x y =
+      let one = field_read k f x.0 in
+      let rec = fields_read fs o (after_state f.state k) x.1 y in
       λ i. one i ∷ rec i
 
   -- of the fields of a tree
@@ -235,34 +232,33 @@ module _ (t : Table) (n : List ℕ) where
   rest_fits (field_again i x fs) f h = rest_fits fs f h
   rest_fits (rest_field i e) f h = (f, h)
 
-  struct_read : (fs : Fields) (k : ℕ) → FieldsAreFormed fs → EachField (P t) (Q t) fs → k + length (field_defaults (fields_of fs)) ≤ 2 ^ 64 → map field_model (made_struct s n k fs) ≡ struct_models s n k fs
-  struct_read fs k f h r = fields_read (fields_of fs) (rest_of fs) k (fields_fit fs f h) (rest_fits fs f h) r
+  struct_read : (fs : Fields) (k : ℕ) → FieldsAreFormed fs → EachField (P t) (Q t) fs → map field_model (made_struct s n k fs) ≡ struct_models s n k fs
+  struct_read fs k f h = fields_read (fields_of fs) (rest_of fs) k (fields_fit fs f h) (rest_fits fs f h)
 
-  contents_read : (c : Contents) (k : ℕ) → ContentsAreFormed c → EachInContents (P t) (Q t) c → k + length (contents_defaults c) ≤ 2 ^ 64 → map field_model (made_contents s n k c) ≡ contents_models s n k c
-  contents_read unit_contents k f h r = refl
-  contents_read (newtype_contents e) k f h r = ap (λ z. unnamed_model 0 z ∷ []) (spelled e f h)
-  contents_read (tuple_contents es) k f h r = places_read (entry_tys s.name (s.is_boxed n) es) 0 ∙ ap (λ z. unnamed_models 0 (types_of z)) (entries_spelled s.name (s.is_boxed n) es (all_written t es f.2 h))
-  contents_read (struct_contents fs) k f h r = struct_read fs k f.1 h.1 r
+  contents_read : (c : Contents) (k : ℕ) → ContentsAreFormed c → EachInContents (P t) (Q t) c → map field_model (made_contents s n k c) ≡ contents_models s n k c
+  contents_read unit_contents k f h = refl
+  contents_read (newtype_contents e) k f h = ap (λ z. unnamed_model 0 z ∷ []) (spelled e f h)
+  contents_read (tuple_contents es) k f h = places_read (entry_tys s.name (s.is_boxed n) es) 0 ∙ ap (λ z. unnamed_models 0 (types_of z)) (entries_spelled s.name (s.is_boxed n) es (all_written t es f.2 h))
+  contents_read (struct_contents fs) k f h = struct_read fs k f.1 h.1
 
-  variants_read : (ws : Variants) (k : ℕ) → VariantsAreFormed ws → EachVariant (P t) (Q t) ws → k + length (flat_map (λ w. contents_defaults w.contents) (variants_of ws)) ≤ 2 ^ 64
+  variants_read : (ws : Variants) (k : ℕ) → VariantsAreFormed ws → EachVariant (P t) (Q t) ws
       → map reader.variant_model (made_variants s n k (variants_of ws)) ≡ variant_models s n k (variants_of ws)
-  variants_read no_variants k f h r = refl
-  variants_read (variant_then i x c ws) k f h r =
-      let long = length-append (contents_defaults c) (flat_map (λ w. contents_defaults w.contents) (variants_of ws)) in
+  variants_read no_variants k f h = refl
+  variants_read (variant_then i x c ws) k f h =
       let style = style_read s n c in
-      let fields = contents_read c k f.0 h.0 (omega arith) in
-      let rec = variants_read ws (after_contents c k) f.1 h.1 (omega arith) in
+      let fields = contents_read c k f.0 h.0 in
+      let rec = variants_read ws (after_contents c k) f.1 h.1 in
       λ j. record { serialize_name = x; deserialize_names = x ∷ []; style = style j; fields = fields j } ∷ rec j
 
   -- ---- the container
 
   module _ (u : TyD) (m : ℕ) where
-    body_read : (h : Shape) → ShapeIsFormed h → EachInShape (P t) (Q t) h → m + length (shape_defaults h) ≤ 2 ^ 64 → body_model (made_attrs s n u h).tag (made_body s n u m h) ≡ shape_body s n m h
-    body_read (struct_shape closed fs) f h r = ap (struct_model struct_style) (struct_read fs m f.1 h.1 r)
-    body_read (newtype_shape e rule) f h r = ap (λ z. struct_model newtype_style (unnamed_model 0 z ∷ [])) (spelled e f.1 h)
-    body_read (enum_shape closed tag ws) f h r =
+    body_read : (h : Shape) → ShapeIsFormed h → EachInShape (P t) (Q t) h → body_model (made_attrs s n u h).tag (made_body s n u m h) ≡ shape_body s n m h
+    body_read (struct_shape closed fs) f h = ap (struct_model struct_style) (struct_read fs m f.1 h.1)
+    body_read (newtype_shape e rule) f h = ap (λ z. struct_model newtype_style (unnamed_model 0 z ∷ [])) (spelled e f.1 h)
+    body_read (enum_shape closed tag ws) f h =
         let name = tag_back tag in
-        let vs = variants_read ws m f.1 h r in
+        let vs = variants_read ws m f.1 h in
         λ i. enum_model (name i) (vs i)
 
     -- marks aren't seen
@@ -286,9 +282,9 @@ module _ (t : Table) (n : List ℕ) where
     try_from_read (newtype_shape e (Some rule)) = refl
     try_from_read (newtype_shape e None) = refl
 
-    pub container_read : (h : Shape) (derive : Derive) → ShapeIsFormed h → EachInShape (P t) (Q t) h → m + length (shape_defaults h) ≤ 2 ^ 64
+    pub container_read : (h : Shape) (derive : Derive) → ShapeIsFormed h → EachInShape (P t) (Q t) h
         → reader_model (marked derive (made_container s n u m h)) ≡ model_of_item s m (record { name = n; shape = h })
-    container_read h derive f x r =
+    container_read h derive f x =
         let try_from = try_from_read h in
-        let body = marks_unseen h derive ∙ body_read h f x r in
+        let body = marks_unseen h derive ∙ body_read h f x in
         λ i. record { name = n; transparent = is_transparent s n h; try_from = try_from i; closed = is_closed h; body = body i }

@@ -1,7 +1,6 @@
 -- Of a table with good names each item and each reference in an item has a good name, and is among the items.
 use Rattle.std.proofs.Common.{◌≡◌, ℕ, List, [], ◌∷◌, ◌++◌, map, Bool, true, false, ◌||◌, cond, refl, sym, ap, ◌∙◌, subst, Some, None, inl, inr, bytes_eq}
 use Rattle.std.specs.List.{AllByRecursion, list_any, flat_map}
-use Rattle.std.specs.Str.{IsUtf8}
 use Rattle.model_defs.proofs.Rising.{bytes_itself}
 use Rattle.entry_defs.specs.Entry.{Target, Entry, item, Shape}
 use Rattle.entry_defs.specs.Table.{ItemEntry, TargetEntry, Table, found, same_target, target_name, item_name, items_in, items_in_shape, items_of, Among}
@@ -54,10 +53,9 @@ found_among q (t ∷ ts) i e =
       | false ↦ λ k. inr (rec k)
     ] e
 
--- good, a text, and among the items
+-- good, and among the items
 pub record IsNamed (t : Table) (n : List ℕ) : Type 0 where
   pub good : is_good_name n ≡ true
-  pub utf8 : IsUtf8 n
   pub known : list_any (bytes_eq n) (map (λ i. i.name) (items_of t)) ≡ true
 
 module _ (t : Table) (h : IsEmittable t) where
@@ -68,7 +66,7 @@ module _ (t : Table) (h : IsEmittable t) where
   OfReference q = IsNamed t (target_name t q)
 
   pub item_named : (i : ItemEntry) → Among i (items_of t) → IsNamed t i.name
-  item_named i a = record { good = (each_among (λ x. (is_good_name x.name ≡ true) × ShapeIsGood is_good_name x.shape) (items_of t) h.named i a).0; utf8 = each_among (λ x. IsUtf8 x.name) (items_of t) h.texts i a; known = known_among i (items_of t) a }
+  item_named i a = record { good = (each_among (λ x. (is_good_name x.name ≡ true) × ShapeIsGood is_good_name x.shape) (items_of t) h.named i a).0; known = known_among i (items_of t) a }
 
   abbrev inner : List TargetEntry → List ItemEntry
   inner ts = flat_map (λ x. items_in_shape x.led_to.shape) ts

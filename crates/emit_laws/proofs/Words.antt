@@ -1,5 +1,5 @@
 -- Good names are no words of Rust's own, and aren't written raw.
-use Rattle.std.proofs.Common.{◌≡◌, ℕ, List, [], ◌∷◌, Bool, true, false, ◌&&◌, ◌||◌, not, cond, refl, sym, ap, ◌∙◌, subst, true≢false, bytes_eq, lit<}
+use Rattle.std.proofs.Common.{◌≡◌, ℕ, List, [], ◌∷◌, Bool, true, false, ◌&&◌, ◌||◌, cond, refl, sym, ap, ◌∙◌, subst, true≢false, bytes_eq, lit<}
 use Rattle.std.specs.Prelude.{nat_eq, ◌==◌}
 use Rattle.std.specs.List.{list_all, AllByRecursion}
 use Rattle.std.specs.Str.{chars, chars_after, continuation_len, lead_bits}
@@ -8,8 +8,9 @@ use Rattle.unicode_ident.specs.Ident.{is_xid_start, is_xid_continue}
 use Rattle.unicode_ident.proofs.IdentLemmas.{is_xid_continue-ascii}
 use Rattle.attr_defs.specs.Container.{unraw}
 use Rattle.model_defs.specs.Types.{word_type}
-use Rattle.model_defs.proofs.Flat.{and_first, and_second, not_true}
-use Rattle.naming_defs.specs.Good.{spells_identifier, keywords, primitive_types, is_one_of, is_good_name}
+use Rattle.model_defs.proofs.Flat.{and_first, and_second}
+use Rattle.naming_defs.specs.Good.{spells_identifier, primitive_types, is_one_of, is_good_name}
+use Rattle.naming_defs.proofs.Good.{known}
 use Rattle.emit_defs.specs.Spelled.{IsFree}
 
 first_false : (a b : Bool) → (a || b) ≡ false → a ≡ false
@@ -32,7 +33,7 @@ none_is n [] h = tt
 none_is n (w ∷ ws) h = (other_way w n (first_false (bytes_eq w n) (is_one_of ws n) h), none_is n ws (second_false (bytes_eq w n) (is_one_of ws n) h))
 
 no_primitive : (n : List ℕ) → is_good_name n ≡ true → is_one_of primitive_types n ≡ false
-no_primitive n g = not_true _ (and_second (spells_identifier (chars n) && not (is_one_of keywords n)) (not (is_one_of primitive_types n)) g)
+no_primitive n g = (known n g).no_primitive
 
 pub free : (n : List ℕ) → is_good_name n ≡ true → IsFree n
 unfolding word_type
@@ -45,7 +46,7 @@ free n g =
 -- ---- `r#`
 
 spelled : (n : List ℕ) → is_good_name n ≡ true → spells_identifier (chars n) ≡ true
-spelled n g = and_first (spells_identifier (chars n)) (not (is_one_of keywords n)) (and_first _ (not (is_one_of primitive_types n)) g)
+spelled n g = (known n g).identifier
 
 same_number : (c d : ℕ) → nat_eq c d ≡ true → c ≡ d
 same_number c d h =

@@ -1,16 +1,21 @@
--- The laws on small tables by computation, where texts are cut at blanks, at marks and between words.
-use Rattle.std.specs.Prelude.{◌≡◌, ◌++◌, nat_eq, not, filter, List, [], Bool, true, false, option_map}
-use Rattle.std.specs.List.{flat_map}
+-- The laws on small tables: by computation, where texts are cut at blanks, at marks and between words, and by themselves.
+use Rattle.std.specs.Prelude.{◌≡◌, ◌++◌, ℕ, nat_eq, not, filter, List, [], ◌∷◌, Bool, true, false, option_map}
+use Rattle.std.specs.List.{flat_map, AllByRecursion}
 use Rattle.token_trees.specs.Token.{Tok, word, mark, fixed, group}
 use Rattle.attr_parts.specs.declared.derive.Derive.TheVariants.{Serialize, Deserialize}
 use Rattle.attr_parts.specs.Diagnostics.{DiagnosticD}
-use Rattle.attr_defs.specs.Texts.{Lexing}
+use Rattle.attr_defs.specs.Texts.{Lexing, lexed}
 use Rattle.container_defs.specs.Model.{diagnostics_of}
 use Rattle.container_defs.specs.Reader.{item_models}
 use Rattle.container_defs.specs.Forms.{are_inside}
 use Rattle.container_defs.specs.Told.{itself, always_z, private}
 use Rattle.container_defs.specs.Written.{words}
+use Rattle.json_value.specs.Value.{Value}
+use Rattle.schema_defs.specs.Build.{◌≔◌, str, obj, arr, sample}
+use Rattle.model_defs.specs.Types.{type_of}
+use Rattle.model_defs.specs.Reads.{reads}
 use Rattle.entry_defs.specs.Table.{Table, root_of}
+use Rattle.emit_defs.specs.Formed.{IsEmittable}
 use Rattle.emit_defs.specs.Emission.{emission, models_of}
 use Rattle.emit_defs.specs.Examples.{row_1, row_3, row_4, row_5, row_18, row_20, chain, enums, rules, leading, alike}
 
@@ -44,3 +49,19 @@ pub record ReadBack : Type 0 where
   pub rules : IsReadBack rules
   pub leading : IsReadBack leading
   pub alike : IsReadBack alike
+
+-- ---- a table that can be emitted, its items as they are lexed, and what they read
+
+abbrev pub reads_back : Value → Bool
+reads_back v =
+    let e = emission row_20 (root_of row_20) in
+    reads (item_models lexed itself itself private Deserialize e.items) e.conversions sample (type_of e.root) v
+
+abbrev pub copying : List (List ℕ × Value)
+copying = "jobs" ≔ arr (obj ("from" ≔ str "a" ∷ "kind" ≔ str "copy" ∷ "to" ≔ str "b" ∷ []) ∷ []) ∷ []
+
+pub record EmittedWhole : Type 0 where
+  pub emittable : IsEmittable row_20
+  pub untold : AllByRecursion (λ i. diagnostics_of lexed itself itself private i Deserialize ≡ []) (emission row_20 (root_of row_20)).items
+  pub taken : reads_back (obj (copying ++ "name" ≔ str "n" ∷ [])) ≡ true
+  pub refused : reads_back (obj copying) ≡ false

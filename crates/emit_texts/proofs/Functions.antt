@@ -6,7 +6,7 @@ use Rattle.std.specs.Fmt.{decimal}
 use Rattle.std.specs.Str.{chars, IsAscii}
 use Rattle.std.specs.Int.{is_in_range}
 use Rattle.std.proofs.lemmas.Bool.{eqb-true, le-leb}
-use Rattle.std.proofs.lemmas.Fmt.{decimal_by_steps, IsAscii-decimal}
+use Rattle.std.proofs.lemmas.Fmt.{decimal_by_steps}
 use Rattle.std.proofs.lemmas.Str.{chars-IsAscii, encodes-IsAscii}
 use Rattle.unicode_ident.specs.Ident.{is_xid_continue}
 use Rattle.unicode_ident.proofs.IdentLemmas.{is_xid_continue-ascii}
@@ -22,9 +22,12 @@ use Rattle.syntax_parsers.specs.SpellingForm.{segments_count, SegmentsForm, Segm
 use Rattle.syntax_parsers.specs.Whole.{room, expr_path_of}
 use Rattle.syntax_parsers.proofs.spelling.Exact.{expr_path_exact}
 use Rattle.syntax_parsers.proofs.spelling.Printing.{expr_path_printed}
+use Rattle.schema_defs.specs.Location.{place}
 use Rattle.attr_defs.proofs.Lexed.{read_same}
+use Rattle.naming_defs.proofs.Good.{place-ascii}
 use Rattle.emit_defs.specs.Models.{Empty, empty_option, empty_vec, empty_set, empty_map}
 use Rattle.emit_defs.specs.Trees.{name_at, empty_path}
+use Rattle.emit_defs.proofs.Digits.{place_by_steps}
 use Rattle.emit_texts.specs.Laws.{literal, function_at, some_function, whole_function, default_function, empty_function, IsFunction, FunctionsAreRead}
 use Rattle.emit_texts.proofs.Names.{reads_all}
 use lib.Utf8.{encode}
@@ -115,6 +118,9 @@ joined (d ∷ ds) c h k = (h.0, joined ds c h.1 k)
 pub digits_of : (n : ℕ) → n < 2 ^ 64 → AllByRecursion IsDigit (decimal n)
 digits_of = decimal_by_steps (λ n ds. AllByRecursion IsDigit ds) (λ n h. ((omega arith, omega arith), tt)) (λ n ds l h. joined ds (48 + n % 10) h (omega arith, omega arith))
 
+place_digits : (n : ℕ) → AllByRecursion IsDigit (place n)
+place_digits = place_by_steps (λ n ds. AllByRecursion IsDigit ds) (λ n h. ((omega arith, omega arith), tt)) (λ n ds l h. joined ds (48 + n % 10) h (omega arith, omega arith))
+
 pub digit_goes_on : (c : ℕ) → IsDigit c → is_xid_continue c ≡ true
 digit_goes_on c h =
     let l = h.0 in
@@ -159,18 +165,18 @@ default_reads : (ds : List ℕ) → Reads (100 ∷ ds) (name (100 ∷ ds) ∷ []
 unfolding unicode_ident encode
 default_reads ds h = (15, refl, (1, refl, (1, refl, h)))
 
-default_lexed : (n : ℕ) → n < 2 ^ 64 → IsLexed (chars (codes "typify_defaults::d" ++ decimal n)) site (print_expr_path (default_function n))
-default_lexed n h =
-    let ds = decimal n in
-    let ascii : IsAscii (100 ∷ ds) = ascii_then 100 ds (lit< tt) (IsAscii-decimal n h) in
-    let whole : chars (codes "typify_defaults::d" ++ ds) ≡ codes "typify_defaults::d" ++ ds = chars-IsAscii _ (all_ascii (codes "typify_defaults::d") ds front_ascii (IsAscii-decimal n h)) in
+default_lexed : (n : ℕ) → IsLexed (chars (codes "typify_defaults::d" ++ place n)) site (print_expr_path (default_function n))
+default_lexed n =
+    let ds = place n in
+    let ascii : IsAscii (100 ∷ ds) = ascii_then 100 ds (lit< tt) (place-ascii n) in
+    let whole : chars (codes "typify_defaults::d" ++ ds) ≡ codes "typify_defaults::d" ++ ds = chars-IsAscii _ (all_ascii (codes "typify_defaults::d") ds front_ascii (place-ascii n)) in
     record {
-      read = subst (λ z. Reads z (pieces_of (print_expr_path (default_function n))) []) (sym whole) (default_reads ds (reads_all 100 ds (100 ∷ ds) d_begins (all_go_on ds (digits_of n h)) (encodes-IsAscii (100 ∷ ds) ascii)));
+      read = subst (λ z. Reads z (pieces_of (print_expr_path (default_function n))) []) (sym whole) (default_reads ds (reads_all 100 ds (100 ∷ ds) d_begins (all_go_on ds (place_digits n)) (encodes-IsAscii (100 ∷ ds) ascii)));
       written = (refl, (refl, (refl, (refl, tt))));
     }
 
-default_read : (n : ℕ) → n < 2 ^ 64 → IsFunction (codes "typify_defaults::d" ++ decimal n) (default_function n)
-default_read n h = read_from (codes "typify_defaults::d" ++ decimal n) (default_function n) (parsed false (codes "typify_defaults") ((codes "d" ++ decimal n) ∷ []) (refl, (free_default (decimal n) (digits_of n h), tt))) (default_lexed n h)
+default_read : (n : ℕ) → IsFunction (codes "typify_defaults::d" ++ place n) (default_function n)
+default_read n = read_from (codes "typify_defaults::d" ++ place n) (default_function n) (parsed false (codes "typify_defaults") ((codes "d" ++ place n) ∷ []) (refl, (free_default (place n) (place_digits n), tt))) (default_lexed n)
 
 pub functions_are_read : FunctionsAreRead
 functions_are_read = record {

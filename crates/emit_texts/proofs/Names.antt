@@ -1,9 +1,9 @@
 -- Identifiers are lexed as one name.
 use Rattle.std.proofs.Common.{◌≡◌, ◌<◌, ◌≤◌, ◌+◌, ℕ, Bool, true, false, ◌&&◌, ◌||◌, eqb, cond, List, [], ◌∷◌, length, take, drop, Option, Some, refl, ap, sym, subst, ◌∙◌, true≢false, add-one, encode_utf8_all, arith}
-use Rattle.std.specs.Prelude.{◌==◌, nat_le, not}
+use Rattle.std.specs.Prelude.{◌==◌, nat_le}
 use Rattle.std.specs.List.{list_all}
 use Rattle.std.specs.Char.{is_ascii_digit, is_ascii_alphabetic}
-use Rattle.std.specs.Str.{chars, IsUtf8, skip_leading_whitespace}
+use Rattle.std.specs.Str.{chars, skip_leading_whitespace}
 use Rattle.std.proofs.Math.Seq.{take-length, drop-length}
 use Rattle.std.proofs.lemmas.Bool.{and_parts, eqb-true, leb-true}
 use Rattle.std.proofs.lemmas.Str.{chars-encodes}
@@ -16,7 +16,8 @@ use Rattle.token_trees.specs.Token as tokens
 use Rattle.rust_tokens.specs.Front.{name_len, begins_name, is_raw_rest, name_span, is_punctuation, spacing_of, string_front, bracket, front}
 use Rattle.rust_tokens.specs.Reading.{Reads}
 use Rattle.rust_tokens.proofs.Whites.{or_case, hash_no_continue, begins_no_white}
-use Rattle.naming_defs.specs.Good.{spells_identifier, keywords, primitive_types, is_one_of, is_good_name}
+use Rattle.naming_defs.specs.Good.{spells_identifier, is_good_name}
+use Rattle.naming_defs.proofs.Good.{known}
 use Rattle.syntax_laws.specs.RoundTrip.{AreOfText}
 
 -- ---- what begins an identifier begins no other token
@@ -127,10 +128,12 @@ identifier_reads (c ∷ cs) x h e =
     let p = and_parts (is_xid_start c || (c == 95)) (list_all is_xid_continue cs) h in
     reads_all c cs x (or_swap (is_xid_start c) (c == 95) p.0) p.1 e
 
--- a good name that is a text is a word of some text
-pub name_of_text : (n : List ℕ) → is_good_name n ≡ true → IsUtf8 n → AreOfText (word n site ∷ [])
-name_of_text n g u =
+-- a good name is a word of some text
+pub name_of_text : (n : List ℕ) → is_good_name n ≡ true → AreOfText (word n site ∷ [])
+name_of_text n g =
+    let k = known n g in
+    let u = k.text in
     let cs = u.0 in
     let same : chars n ≡ cs = sym (ap chars u.1.1) ∙ chars-encodes cs u.1.0 in
-    let spelled = (and_parts (spells_identifier (chars n)) (not (is_one_of keywords n)) (and_parts (spells_identifier (chars n) && not (is_one_of keywords n)) (not (is_one_of primitive_types n)) g).0).0 in
+    let spelled = k.identifier in
     (n, site, u, record { read = subst (λ z. Reads z (name n ∷ []) []) (sym same) (identifier_reads cs n (ap spells_identifier (sym same) ∙ spelled) u.1.1); written = (refl, tt) })

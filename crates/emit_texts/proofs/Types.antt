@@ -4,7 +4,7 @@ use Rattle.std.specs.Prelude.{Option, nat_le, nat_lt, ◌==◌, not}
 use Rattle.std.specs.List.{list_all, list_any, AllByRecursion}
 use Rattle.std.specs.Fmt.{decimal}
 use Rattle.std.specs.Char.{is_ascii_digit, is_whitespace}
-use Rattle.std.specs.Str.{chars, IsAscii, skip_leading_whitespace}
+use Rattle.std.specs.Str.{IsAscii, skip_leading_whitespace}
 use Rattle.std.proofs.Math.Seq.{take-length, drop-length}
 use Rattle.std.proofs.lemmas.Bool.{and_parts, le-leb, leb-true, ltb-true, eqb-true}
 use Rattle.std.proofs.lemmas.Fmt.{IsAscii-decimal, decimal_nonempty}
@@ -37,11 +37,12 @@ use Rattle.attr_defs.proofs.Lexed.{read_same}
 use Rattle.model_defs.specs.Types as types
 use Rattle.model_defs.proofs.Flat.{not_true}
 use Rattle.entry_defs.specs.Entry.{IntegerName, i8, u8, i16, u16, i32, u32, i64, u64, nonzero_u8, nonzero_u16, nonzero_u32, nonzero_u64, Target, Entry, boolean_entry, integer_entry, text_entry, native_entry, any_entry, unit_entry, option_entry, vec_entry, set_entry, map_entry, tuple_entry, array_entry, reference, item, Entries, no_entries, entry_then, entry_again}
-use Rattle.naming_defs.specs.Good.{spells_identifier, keywords, primitive_types, is_one_of, is_good_name}
+use Rattle.naming_defs.specs.Good.{spells_identifier, keywords, is_one_of, is_good_name}
+use Rattle.naming_defs.proofs.Good.{known}
 use Rattle.emit_defs.specs.Formed.{EntryIsFormed, EntriesAreFormed}
 use Rattle.emit_defs.specs.Models.{unboxed}
 use Rattle.emit_defs.specs.Trees.{name_at, lone, segments_to, rooted, in_std, of_one, of_two, boxed_ty, integer_ty, native_ty, utc_ty, used_ty, any_ty, ty_again, entry_ty, entry_tys}
-use Rattle.emit_texts.specs.Laws.{literal, IsGoodText, NamesAreGood, AllNamesAreGood, TypesAreReadAgain}
+use Rattle.emit_texts.specs.Laws.{literal, NamesAreGood, AllNamesAreGood, TypesAreReadAgain}
 use Rattle.emit_texts.proofs.Names.{all_len, identifier_reads, name_of_text}
 use Rattle.emit_texts.proofs.Functions.{ascii_then, IsDigit, digits_of, all_go_on}
 use Rattle.emit_texts.proofs.Moved.{meaning_moved}
@@ -68,168 +69,44 @@ below_all (c ∷ cs) h =
     let l = leb-true c 127 p.0 in
     (omega arith, below_all cs p.1)
 
-is_word : (w : List ℕ) → list_all (λ c. nat_le c 127) w ≡ true → spells_identifier w ≡ true → is_reserved w ≡ false → IsWord w
-is_word w a h r = record { parts = of_ascii w (ascii_by w (below_all w a)) h; free = r }
+abbrev own_words : List (List ℕ)
+own_words =
+    codes "bool" ∷ codes "i8" ∷ codes "u8" ∷ codes "i16" ∷ codes "u16" ∷ codes "i32" ∷ codes "u32" ∷ codes "i64" ∷ codes "u64" ∷ codes "std"
+    ∷ codes "num" ∷ codes "NonZeroU8" ∷ codes "NonZeroU16" ∷ codes "NonZeroU32" ∷ codes "NonZeroU64" ∷ codes "string" ∷ codes "String" ∷ codes "serde_json" ∷ codes "Value" ∷ codes "option"
+    ∷ codes "Option" ∷ codes "boxed" ∷ codes "Box" ∷ codes "vec" ∷ codes "Vec" ∷ codes "collections" ∷ codes "HashSet" ∷ codes "HashMap" ∷ codes "uuid" ∷ codes "Uuid"
+    ∷ codes "chrono" ∷ codes "naive" ∷ codes "NaiveDate" ∷ codes "DateTime" ∷ codes "offset" ∷ codes "Utc" ∷ codes "net" ∷ codes "IpAddr" ∷ codes "Ipv4Addr" ∷ codes "Ipv6Addr" ∷ []
 
-word_bool : IsWord (codes "bool")
-unfolding unicode_ident
-word_bool = is_word (codes "bool") refl refl refl
+abbrev is_own : List ℕ → Bool
+is_own w = list_any (bytes_eq w) own_words
 
-word_i8 : IsWord (codes "i8")
-unfolding unicode_ident
-word_i8 = is_word (codes "i8") refl refl refl
+abbrev is_plain : List ℕ → Bool
+is_plain w = list_all (λ c. nat_le c 127) w && spells_identifier w && not (is_reserved w)
 
-word_u8 : IsWord (codes "u8")
+all_plain : list_all is_plain own_words ≡ true
 unfolding unicode_ident
-word_u8 = is_word (codes "u8") refl refl refl
+all_plain = refl
 
-word_i16 : IsWord (codes "i16")
-unfolding unicode_ident
-word_i16 = is_word (codes "i16") refl refl refl
+found : (w : List ℕ) (ws : List (List ℕ)) → list_all is_plain ws ≡ true → list_any (bytes_eq w) ws ≡ true → is_plain w ≡ true
+found w [] p h = absurd (true≢false (sym h))
+found w (x ∷ xs) p h =
+    let q = and_parts (is_plain x) (list_all is_plain xs) p in
+    let rec = found w xs q.1 in
+    elim (bytes_eq w x) as (λ b. bytes_eq w x ≡ b → (b || list_any (bytes_eq w) xs) ≡ true → is_plain w ≡ true) [
+      | true ↦ λ e k. ap is_plain ((bytes_eq-Decides w x).0 e) ∙ q.0
+      | false ↦ λ e k. rec k
+    ] refl h
 
-word_u16 : IsWord (codes "u16")
-unfolding unicode_ident
-word_u16 = is_word (codes "u16") refl refl refl
+-- each of them is a word
+own : (w : List ℕ) → is_own w ≡ true → IsWord w
+own w h =
+    let low = list_all (λ c. nat_le c 127) w in
+    let p = and_parts (low && spells_identifier w) (not (is_reserved w)) (found w own_words all_plain h) in
+    let q = and_parts low (spells_identifier w) p.0 in
+    record { parts = of_ascii w (ascii_by w (below_all w q.0)) q.1; free = not_true (is_reserved w) p.1 }
 
-word_i32 : IsWord (codes "i32")
-unfolding unicode_ident
-word_i32 = is_word (codes "i32") refl refl refl
-
-word_u32 : IsWord (codes "u32")
-unfolding unicode_ident
-word_u32 = is_word (codes "u32") refl refl refl
-
-word_i64 : IsWord (codes "i64")
-unfolding unicode_ident
-word_i64 = is_word (codes "i64") refl refl refl
-
-word_u64 : IsWord (codes "u64")
-unfolding unicode_ident
-word_u64 = is_word (codes "u64") refl refl refl
-
-word_std : IsWord (codes "std")
-unfolding unicode_ident
-word_std = is_word (codes "std") refl refl refl
-
-word_num : IsWord (codes "num")
-unfolding unicode_ident
-word_num = is_word (codes "num") refl refl refl
-
-word_NonZeroU8 : IsWord (codes "NonZeroU8")
-unfolding unicode_ident
-word_NonZeroU8 = is_word (codes "NonZeroU8") refl refl refl
-
-word_NonZeroU16 : IsWord (codes "NonZeroU16")
-unfolding unicode_ident
-word_NonZeroU16 = is_word (codes "NonZeroU16") refl refl refl
-
-word_NonZeroU32 : IsWord (codes "NonZeroU32")
-unfolding unicode_ident
-word_NonZeroU32 = is_word (codes "NonZeroU32") refl refl refl
-
-word_NonZeroU64 : IsWord (codes "NonZeroU64")
-unfolding unicode_ident
-word_NonZeroU64 = is_word (codes "NonZeroU64") refl refl refl
-
-word_string : IsWord (codes "string")
-unfolding unicode_ident
-word_string = is_word (codes "string") refl refl refl
-
-word_String : IsWord (codes "String")
-unfolding unicode_ident
-word_String = is_word (codes "String") refl refl refl
-
-word_serde_json : IsWord (codes "serde_json")
-unfolding unicode_ident
-word_serde_json = is_word (codes "serde_json") refl refl refl
-
-word_Value : IsWord (codes "Value")
-unfolding unicode_ident
-word_Value = is_word (codes "Value") refl refl refl
-
-word_option : IsWord (codes "option")
-unfolding unicode_ident
-word_option = is_word (codes "option") refl refl refl
-
-word_Option : IsWord (codes "Option")
-unfolding unicode_ident
-word_Option = is_word (codes "Option") refl refl refl
-
-word_boxed : IsWord (codes "boxed")
-unfolding unicode_ident
-word_boxed = is_word (codes "boxed") refl refl refl
-
-word_Box : IsWord (codes "Box")
-unfolding unicode_ident
-word_Box = is_word (codes "Box") refl refl refl
-
-word_vec : IsWord (codes "vec")
-unfolding unicode_ident
-word_vec = is_word (codes "vec") refl refl refl
-
-word_Vec : IsWord (codes "Vec")
-unfolding unicode_ident
-word_Vec = is_word (codes "Vec") refl refl refl
-
-word_collections : IsWord (codes "collections")
-unfolding unicode_ident
-word_collections = is_word (codes "collections") refl refl refl
-
-word_HashSet : IsWord (codes "HashSet")
-unfolding unicode_ident
-word_HashSet = is_word (codes "HashSet") refl refl refl
-
-word_HashMap : IsWord (codes "HashMap")
-unfolding unicode_ident
-word_HashMap = is_word (codes "HashMap") refl refl refl
-
-word_uuid : IsWord (codes "uuid")
-unfolding unicode_ident
-word_uuid = is_word (codes "uuid") refl refl refl
-
-word_Uuid : IsWord (codes "Uuid")
-unfolding unicode_ident
-word_Uuid = is_word (codes "Uuid") refl refl refl
-
-word_chrono : IsWord (codes "chrono")
-unfolding unicode_ident
-word_chrono = is_word (codes "chrono") refl refl refl
-
-word_naive : IsWord (codes "naive")
-unfolding unicode_ident
-word_naive = is_word (codes "naive") refl refl refl
-
-word_NaiveDate : IsWord (codes "NaiveDate")
-unfolding unicode_ident
-word_NaiveDate = is_word (codes "NaiveDate") refl refl refl
-
-word_DateTime : IsWord (codes "DateTime")
-unfolding unicode_ident
-word_DateTime = is_word (codes "DateTime") refl refl refl
-
-word_offset : IsWord (codes "offset")
-unfolding unicode_ident
-word_offset = is_word (codes "offset") refl refl refl
-
-word_Utc : IsWord (codes "Utc")
-unfolding unicode_ident
-word_Utc = is_word (codes "Utc") refl refl refl
-
-word_net : IsWord (codes "net")
-unfolding unicode_ident
-word_net = is_word (codes "net") refl refl refl
-
-word_IpAddr : IsWord (codes "IpAddr")
-unfolding unicode_ident
-word_IpAddr = is_word (codes "IpAddr") refl refl refl
-
-word_Ipv4Addr : IsWord (codes "Ipv4Addr")
-unfolding unicode_ident
-word_Ipv4Addr = is_word (codes "Ipv4Addr") refl refl refl
-
-word_Ipv6Addr : IsWord (codes "Ipv6Addr")
-unfolding unicode_ident
-word_Ipv6Addr = is_word (codes "Ipv6Addr") refl refl refl
+all_own : (ws : List (List ℕ)) → list_all is_own ws ≡ true → AllByRecursion IsWord ws
+all_own [] h = tt
+all_own (w ∷ ws) h = let p = and_parts (is_own w) (list_all is_own ws) h in (own w p.0, all_own ws p.1)
 
 -- a good name can be a segment
 is_one : (n : List ℕ) (ks : List (List ℕ)) → list_any (bytes_eq n) ks ≡ true → is_one_of ks n ≡ true
@@ -256,11 +133,8 @@ absent n (w ∷ ws) ks a h =
       | false ↦ λ e. rec
     ] refl
 
-no_keyword : (n : List ℕ) → is_good_name n ≡ true → is_one_of keywords n ≡ false
-no_keyword n g = not_true _ (and_parts (spells_identifier (chars n)) (not (is_one_of keywords n)) (and_parts (spells_identifier (chars n) && not (is_one_of keywords n)) (not (is_one_of primitive_types n)) g).0).1
-
-of_good : (n : List ℕ) → IsGoodText n → IsWord n
-of_good n g = record { parts = name_of_text n g.0 g.1; free = absent n reserved_words keywords refl (no_keyword n g.0) }
+of_good : (n : List ℕ) → is_good_name n ≡ true → IsWord n
+of_good n g = record { parts = name_of_text n g; free = absent n reserved_words keywords refl (known n g).no_keyword }
 
 -- ---- types that are of parsed form, and whose parts are such as texts have
 
@@ -313,44 +187,50 @@ to_some : (ms : List (List ℕ)) (n : List ℕ) (a : ArgumentsD) → 0 < segment
 to_some [] n a = lit< tt
 to_some (m ∷ ms) n a = omega arith
 
-rooted_fine : (ms : List (List ℕ)) (n : List ℕ) (a : ArgumentsD) → AllByRecursion IsWord ms → IsWord n → FineArguments a → IsFine (rooted ms n a)
-rooted_fine ms n a h w f = record { form = (tt, (to_some ms n a, to_form ms n a h w f)); lengths = (tt, to_lengths ms n a f); parts = (tt, to_parts ms n a h w f) }
+rooted_fine : (ms : List (List ℕ)) (n : List ℕ) (a : ArgumentsD) → list_all is_own ms ≡ true → is_own n ≡ true → FineArguments a → IsFine (rooted ms n a)
+rooted_fine ms n a k l f =
+    let h = all_own ms k in
+    let w = own n l in
+    record { form = (tt, (to_some ms n a, to_form ms n a h w f)); lengths = (tt, to_lengths ms n a f); parts = (tt, to_parts ms n a h w f) }
 
-std_fine : (m n : List ℕ) (a : ArgumentsD) → IsWord m → IsWord n → FineArguments a → IsFine (in_std m n a)
-std_fine m n a v w f = rooted_fine (codes "std" ∷ m ∷ []) n a (word_std, (v, tt)) w f
+std_fine : (m n : List ℕ) (a : ArgumentsD) → is_own m ≡ true → is_own n ≡ true → FineArguments a → IsFine (in_std m n a)
+std_fine m n a k l f = rooted_fine (codes "std" ∷ m ∷ []) n a (ap (λ b. b && true) k) l f
+
+own_fine : (n : List ℕ) → is_own n ≡ true → IsFine (lone n)
+own_fine n l = lone_fine n (own n l)
 
 integer_fine : (i : IntegerName) → IsFine (integer_ty i)
-integer_fine i8 = lone_fine (codes "i8") word_i8
-integer_fine u8 = lone_fine (codes "u8") word_u8
-integer_fine i16 = lone_fine (codes "i16") word_i16
-integer_fine u16 = lone_fine (codes "u16") word_u16
-integer_fine i32 = lone_fine (codes "i32") word_i32
-integer_fine u32 = lone_fine (codes "u32") word_u32
-integer_fine i64 = lone_fine (codes "i64") word_i64
-integer_fine u64 = lone_fine (codes "u64") word_u64
-integer_fine nonzero_u8 = std_fine (codes "num") (codes "NonZeroU8") no_arguments word_num word_NonZeroU8 none_fine
-integer_fine nonzero_u16 = std_fine (codes "num") (codes "NonZeroU16") no_arguments word_num word_NonZeroU16 none_fine
-integer_fine nonzero_u32 = std_fine (codes "num") (codes "NonZeroU32") no_arguments word_num word_NonZeroU32 none_fine
-integer_fine nonzero_u64 = std_fine (codes "num") (codes "NonZeroU64") no_arguments word_num word_NonZeroU64 none_fine
+integer_fine i8 = own_fine (codes "i8") refl
+integer_fine u8 = own_fine (codes "u8") refl
+integer_fine i16 = own_fine (codes "i16") refl
+integer_fine u16 = own_fine (codes "u16") refl
+integer_fine i32 = own_fine (codes "i32") refl
+integer_fine u32 = own_fine (codes "u32") refl
+integer_fine i64 = own_fine (codes "i64") refl
+integer_fine u64 = own_fine (codes "u64") refl
+integer_fine nonzero_u8 = std_fine (codes "num") (codes "NonZeroU8") no_arguments refl refl none_fine
+integer_fine nonzero_u16 = std_fine (codes "num") (codes "NonZeroU16") no_arguments refl refl none_fine
+integer_fine nonzero_u32 = std_fine (codes "num") (codes "NonZeroU32") no_arguments refl refl none_fine
+integer_fine nonzero_u64 = std_fine (codes "num") (codes "NonZeroU64") no_arguments refl refl none_fine
 
 utc_fine : IsFine utc_ty
-utc_fine = rooted_fine (codes "chrono" ∷ codes "offset" ∷ []) (codes "Utc") no_arguments (word_chrono, (word_offset, tt)) word_Utc none_fine
+utc_fine = rooted_fine (codes "chrono" ∷ codes "offset" ∷ []) (codes "Utc") no_arguments refl refl none_fine
 
 native_fine : (f : Format) → IsFine (native_ty f)
-native_fine Uuid = rooted_fine (codes "uuid" ∷ []) (codes "Uuid") no_arguments (word_uuid, tt) word_Uuid none_fine
-native_fine Date = rooted_fine (codes "chrono" ∷ codes "naive" ∷ []) (codes "NaiveDate") no_arguments (word_chrono, (word_naive, tt)) word_NaiveDate none_fine
-native_fine DateTime = rooted_fine (codes "chrono" ∷ []) (codes "DateTime") (of_one utc_ty) (word_chrono, tt) word_DateTime (one_fine utc_ty utc_fine)
-native_fine Ip = std_fine (codes "net") (codes "IpAddr") no_arguments word_net word_IpAddr none_fine
-native_fine Ipv4 = std_fine (codes "net") (codes "Ipv4Addr") no_arguments word_net word_Ipv4Addr none_fine
-native_fine Ipv6 = std_fine (codes "net") (codes "Ipv6Addr") no_arguments word_net word_Ipv6Addr none_fine
+native_fine Uuid = rooted_fine (codes "uuid" ∷ []) (codes "Uuid") no_arguments refl refl none_fine
+native_fine Date = rooted_fine (codes "chrono" ∷ codes "naive" ∷ []) (codes "NaiveDate") no_arguments refl refl none_fine
+native_fine DateTime = rooted_fine (codes "chrono" ∷ []) (codes "DateTime") (of_one utc_ty) refl refl (one_fine utc_ty utc_fine)
+native_fine Ip = std_fine (codes "net") (codes "IpAddr") no_arguments refl refl none_fine
+native_fine Ipv4 = std_fine (codes "net") (codes "Ipv4Addr") no_arguments refl refl none_fine
+native_fine Ipv6 = std_fine (codes "net") (codes "Ipv6Addr") no_arguments refl refl none_fine
 
 any_fine : IsFine any_ty
-any_fine = rooted_fine (codes "serde_json" ∷ []) (codes "Value") no_arguments (word_serde_json, tt) word_Value none_fine
+any_fine = rooted_fine (codes "serde_json" ∷ []) (codes "Value") no_arguments refl refl none_fine
 
 boxed_fine : (t : TyD) → IsFine t → IsFine (boxed_ty t)
-boxed_fine t f = std_fine (codes "boxed") (codes "Box") (of_one t) word_boxed word_Box (one_fine t f)
+boxed_fine t f = std_fine (codes "boxed") (codes "Box") (of_one t) refl refl (one_fine t f)
 
-used_fine : (b : List ℕ → Bool) (n : List ℕ) → IsGoodText n → IsFine (used_ty b n)
+used_fine : (b : List ℕ → Bool) (n : List ℕ) → is_good_name n ≡ true → IsFine (used_ty b n)
 used_fine b n g = elim (b n) as (λ z. IsFine (cond z (boxed_ty (lone n)) (lone n))) [
   | true ↦ boxed_fine (lone n) (lone_fine n (of_good n g))
   | false ↦ lone_fine n (of_good n g)
@@ -425,16 +305,16 @@ number_parts n h = digits_parts (decimal n) (decimal_nonempty n h) (digits_of n 
 module _ (name_of : Target → List ℕ) where
   mutual
     fine : (b : List ℕ → Bool) (e : Entry) → EntryIsFormed e → NamesAreGood name_of e → IsFine (entry_ty name_of b e)
-    fine b boolean_entry f g = lone_fine (codes "bool") word_bool
+    fine b boolean_entry f g = own_fine (codes "bool") refl
     fine b (integer_entry i) f g = integer_fine i
-    fine b text_entry f g = std_fine (codes "string") (codes "String") no_arguments word_string word_String none_fine
+    fine b text_entry f g = std_fine (codes "string") (codes "String") no_arguments refl refl none_fine
     fine b (native_entry x) f g = native_fine x
     fine b any_entry f g = any_fine
     fine b unit_entry f g = record { form = tt; lengths = tt; parts = tt }
-    fine b (option_entry e) f g = std_fine _ _ (of_one (entry_ty name_of b e)) word_option word_Option (one_fine _ (fine b e f g))
-    fine b (vec_entry e) f g = std_fine _ _ (of_one (entry_ty name_of unboxed e)) word_vec word_Vec (one_fine _ (fine unboxed e f g))
-    fine b (set_entry e) f g = std_fine _ _ (of_one (entry_ty name_of unboxed e)) word_collections word_HashSet (one_fine _ (fine unboxed e f g))
-    fine b (map_entry k e) f g = std_fine _ _ (of_two (entry_ty name_of unboxed k) (entry_ty name_of unboxed e)) word_collections word_HashMap (two_fine _ _ (fine unboxed k f.0 g.0) (fine unboxed e f.1 g.1))
+    fine b (option_entry e) f g = std_fine (codes "option") (codes "Option") (of_one (entry_ty name_of b e)) refl refl (one_fine _ (fine b e f g))
+    fine b (vec_entry e) f g = std_fine (codes "vec") (codes "Vec") (of_one (entry_ty name_of unboxed e)) refl refl (one_fine _ (fine unboxed e f g))
+    fine b (set_entry e) f g = std_fine (codes "collections") (codes "HashSet") (of_one (entry_ty name_of unboxed e)) refl refl (one_fine _ (fine unboxed e f g))
+    fine b (map_entry k e) f g = std_fine (codes "collections") (codes "HashMap") (of_two (entry_ty name_of unboxed k) (entry_ty name_of unboxed e)) refl refl (two_fine _ _ (fine unboxed k f.0 g.0) (fine unboxed e f.1 g.1))
     fine b (tuple_entry es) f g = let a = all_fine b es f.1 g in record { form = a.form; lengths = a.lengths; parts = a.parts }
     fine b (array_entry e n) f g = let a = fine b e f.1 g in record { form = (a.form, tt); lengths = (a.lengths, tt); parts = (a.parts, number_parts n f.0) }
     fine b (reference q) f g = used_fine b (name_of q) g

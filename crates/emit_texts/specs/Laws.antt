@@ -1,7 +1,5 @@
 -- What the texts in emitted attributes are read as: the paths of functions, and types.
-use Rattle.std.specs.Prelude.{◌≡◌, ◌<◌, ◌^◌, ℕ, ◌++◌, List, [], ◌∷◌, map, Bool, true, false, Ok, ⊤, codes}
-use Rattle.std.specs.Fmt.{decimal}
-use Rattle.std.specs.Str.{IsUtf8}
+use Rattle.std.specs.Prelude.{◌≡◌, ℕ, ◌++◌, List, [], ◌∷◌, map, Bool, true, false, Ok, ⊤, codes}
 use Rattle.token_trees.specs.Token.{site}
 use Rattle.token_trees.specs.Text.{text_of}
 use Rattle.syntax_trees.specs.Syntax.{LitStrD, TyD, segment, no_arguments, path, ExprPathD, expr_path, no_qself, segments_of}
@@ -9,6 +7,7 @@ use Rattle.syntax_printing.specs.Print.{print_ty}
 use Rattle.syntax_parsers.specs.Whole as whole
 use Rattle.syntax_parsers.specs.Whole.{expr_path_of}
 use Rattle.attr_defs.specs.Texts.{lexed, read_text}
+use Rattle.schema_defs.specs.Location.{place}
 use Rattle.model_defs.specs.Types as types
 use Rattle.entry_defs.specs.Entry.{Target, Entry, option_entry, vec_entry, set_entry, map_entry, tuple_entry, array_entry, reference, item, Entries, no_entries, entry_then, entry_again}
 use Rattle.naming_defs.specs.Good.{is_good_name}
@@ -32,7 +31,7 @@ whole_function = function_at false (codes "typify_present" ∷ codes "whole" ∷
 
 -- of the default at that place
 abbrev pub default_function : ℕ → ExprPathD
-default_function n = function_at false (codes "typify_defaults" ∷ (codes "d" ++ decimal n) ∷ [])
+default_function n = function_at false (codes "typify_defaults" ∷ (codes "d" ++ place n) ∷ [])
 
 abbrev pub empty_function : Empty → ExprPathD
 empty_function empty_option = function_at true (codes "std" ∷ codes "option" ∷ codes "Option" ∷ codes "is_none" ∷ [])
@@ -47,13 +46,10 @@ IsFunction x p = read_text lexed expr_path_of (literal x) ≡ Ok p
 pub record FunctionsAreRead : Type 0 where
   pub some : IsFunction (codes "typify_present::some") some_function
   pub whole : IsFunction (codes "typify_present::whole") whole_function
-  pub default : (n : ℕ) → n < 2 ^ 64 → IsFunction (codes "typify_defaults::d" ++ decimal n) (default_function n)
+  pub default : (n : ℕ) → IsFunction (codes "typify_defaults::d" ++ place n) (default_function n)
   pub empty : (x : Empty) → IsFunction (empty_path x) (empty_function x)
 
--- each item that an entry names has a good name, and that is a text
-abbrev pub IsGoodText : List ℕ → Type 0
-IsGoodText n = (is_good_name n ≡ true) × IsUtf8 n
-
+-- each item that an entry names has a good name
 module _ (name : Target → List ℕ) where
   abbrev mutual
     pub NamesAreGood : Entry → Type 0
@@ -63,8 +59,8 @@ module _ (name : Target → List ℕ) where
     NamesAreGood (map_entry k e) = NamesAreGood k × NamesAreGood e
     NamesAreGood (tuple_entry es) = AllNamesAreGood es
     NamesAreGood (array_entry e n) = NamesAreGood e
-    NamesAreGood (reference q) = IsGoodText (name q)
-    NamesAreGood (item n s) = IsGoodText n
+    NamesAreGood (reference q) = is_good_name (name q) ≡ true
+    NamesAreGood (item n s) = is_good_name n ≡ true
     NamesAreGood _ = ⊤
 
     pub AllNamesAreGood : Entries → Type 0

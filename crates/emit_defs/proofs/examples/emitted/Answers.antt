@@ -1,10 +1,11 @@
 use Rattle.std.proofs.Common.{refl}
 use Rattle.std.specs.Str.{chars}
 use Rattle.std.specs.Fmt.{digits}
+use Rattle.schema_defs.specs.Location.{place}
 use Rattle.emit_defs.proofs.examples.emitted.Goals as goal
 
 pub returns : goal.returns
-unfolding chars digits lib.Utf8.encode
+unfolding chars digits place lib.Utf8.encode
 returns c = record {
   of_row_1 = refl;
   of_row_3 = refl;

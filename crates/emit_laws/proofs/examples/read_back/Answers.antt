@@ -4,6 +4,7 @@ use Rattle.std.specs.Fmt.{digits}
 use Rattle.syntax_parsers.specs.Grammar.{ty_body, path_ty, expr_path_body, path_body, segments_body, segment_body, arguments_body}
 use Rattle.syntax_parsers.specs.Read.{levels}
 use Rattle.syntax_parsers.specs.Whole.{expr_path_of, type_of}
+use Rattle.schema_defs.specs.Location.{place}
 use Rattle.model_defs.specs.Types.{word_type, plain_path, path_of_one, path_of_two}
 use Rattle.emit_laws.specs.Examples.{IsReadBack}
 use Rattle.emit_defs.specs.Examples.{row_1, row_3, row_4, row_5, row_18, row_20, chain, enums, rules, leading, alike}
@@ -38,11 +39,11 @@ unfolding chars digits expr_path_of type_of levels ty_body path_ty expr_path_bod
 of_chain = record { untold = refl; inside = refl; read = refl }
 
 of_enums : IsReadBack enums
-unfolding chars digits expr_path_of type_of levels ty_body path_ty expr_path_body path_body segments_body segment_body arguments_body word_type plain_path path_of_one path_of_two lib.Utf8.encode
+unfolding chars digits place expr_path_of type_of levels ty_body path_ty expr_path_body path_body segments_body segment_body arguments_body word_type plain_path path_of_one path_of_two lib.Utf8.encode
 of_enums = record { untold = refl; inside = refl; read = refl }
 
 of_rules : IsReadBack rules
-unfolding chars digits expr_path_of type_of levels ty_body path_ty expr_path_body path_body segments_body segment_body arguments_body word_type plain_path path_of_one path_of_two lib.Utf8.encode
+unfolding chars digits place expr_path_of type_of levels ty_body path_ty expr_path_body path_body segments_body segment_body arguments_body word_type plain_path path_of_one path_of_two lib.Utf8.encode
 of_rules = record { untold = refl; inside = refl; read = refl }
 
 of_leading : IsReadBack leading
