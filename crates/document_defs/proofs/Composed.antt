@@ -1,18 +1,16 @@
 -- Conversion, naming, emission and reading back, one after another.
-use Rattle.std.proofs.Common.{ℕ, sym}
-use Rattle.schema_defs.specs.Texts.{Relations}
-use Rattle.schema_defs.specs.Schema.{Document}
+use Rattle.std.proofs.Common.{sym}
 use Rattle.entry_defs.specs.Table.{root_of}
-use Rattle.emit_defs.specs.Formed.{IsEmittable}
 use Rattle.emit_defs.proofs.Found.{of_table}
 use Rattle.emit_defs.proofs.Meaning.{keeps_meaning}
 use Rattle.emit_texts.proofs.Functions.{functions_are_read}
 use Rattle.emit_texts.proofs.Types.{types_are_read_again}
 use Rattle.emit_laws.proofs.Assembled.{items_mean_entries, trees_are_roots}
 use Rattle.convert_defs.proofs.Keeps.{keep-to}
-use Rattle.document_laws.specs.Laws.{WasRead, plan_of}
+use Rattle.document_laws.specs.Laws.{plan_of}
 use Rattle.document_laws.proofs.Proper.{read_documents_are_planned, read_plans_agree}
-use Rattle.document_defs.specs.Laws.{CanBeWritten, DocumentsMeanModels, DocumentsMeanItems}
+use Rattle.document_defs.specs.Laws.{DocumentsMeanModels, DocumentsMeanItems}
+use Rattle.document_defs.proofs.Shaped.{read_plans_are_emittable}
 
 pub documents_mean_models : DocumentsMeanModels
 documents_mean_models way r d depth w c v s =
@@ -20,14 +18,9 @@ documents_mean_models way r d depth w c v s =
     let sound = (read_documents_are_planned r d depth w).sound in
     keep-to way _ _ _ (read_plans_agree way r d depth w c v s) (sym (keeps_meaning t r sound (root_of t) (of_table t sound).trees.0 v))
 
-emittable : (r : Relations) (d : Document) (depth : ℕ) → WasRead d → CanBeWritten (plan_of r d depth) → IsEmittable (plan_of r d depth)
-emittable r d depth w k =
-    let p = read_documents_are_planned r d depth w in
-    record { sound = p.sound; named = p.named; texts = k.texts; formed = k.formed }
-
 pub documents_mean_items : DocumentsMeanItems
-documents_mean_items variant_name field_name private derive way r d depth w c k v s =
+documents_mean_items variant_name field_name private derive way r d depth w c v s =
     let t = plan_of r d depth in
-    let e = emittable r d depth w k in
+    let e = read_plans_are_emittable r d depth w in
     keep-to way _ _ _ (read_plans_agree way r d depth w c v s)
     (sym (items_mean_entries functions_are_read types_are_read_again variant_name field_name private derive t e r (root_of t) (trees_are_roots t e).0 v))

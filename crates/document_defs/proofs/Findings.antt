@@ -1,5 +1,5 @@
 -- Each row of the table is as emission asks.
-use Rattle.std.proofs.Common.{◌≡◌, ℕ, zero, suc, List, [], ◌∷◌, ◌++◌, map, Bool, true, false, ◌&&◌, ◌||◌, not, Option, Some, None, is_none, is_some, bytes_eq, refl, sym, ◌∙◌, subst, true≢false, codes}
+use Rattle.std.proofs.Common.{◌≡◌, ◌<◌, ◌^◌, ◌+◌, ℕ, zero, suc, length, List, [], ◌∷◌, ◌++◌, map, Bool, true, false, ◌&&◌, ◌||◌, not, Option, Some, None, is_none, is_some, bytes_eq, refl, sym, ap, ◌∙◌, subst, true≢false, codes, arith}
 use Rattle.std.specs.Prelude.{if◌then◌else◌, nat_eq}
 use Rattle.std.specs.List.{list_all, list_any}
 use Rattle.std.proofs.lemmas.Slice.Eq.{bytes_eq-Decides}
@@ -25,9 +25,11 @@ use Rattle.convert_defs.specs.Table.{Line, lines, first_line, nullable, type_bes
 use Rattle.enum_defs.specs.Exclusive.{exclusive}
 use Rattle.convert_defs.specs.Shapes.{schemas_of}
 use Rattle.convert_defs.specs.IntegerRow.{note_if}
+use Rattle.convert_defs.specs.Proper.{IsProper, ProperLists}
 use Rattle.convert_defs.proofs.Bare.{none-some, some-same}
 use Rattle.convert_defs.proofs.PlacedShapes.{ObjectShape, branch_fields, internal_variant}
 use Rattle.convert_defs.proofs.SameShapes.{whole, internal-found, adjacent-found}
+use Rattle.document_laws.specs.Laws.{AsksForFew}
 use Rattle.document_defs.proofs.Deep.{Deep, DeepVariants}
 use Rattle.document_defs.proofs.Rows.{Filled, keeps_some, Others, BesideBody, Beside, RowIsShaped}
 
@@ -74,21 +76,28 @@ abbrev Positive : ℕ → Type 0
 Positive zero = ⊥
 Positive (suc n) = Unit {0}
 
-one_positive : (a b : Option ℕ) (n : ℕ) → one_size a b ≡ Some n → Positive n
-one_positive None b n h = none-some n h
-one_positive (Some zero) b n h = none-some n h
-one_positive (Some (suc k)) None n h = none-some n h
-one_positive (Some (suc k)) (Some m) n h = by (nat_eq (suc k) m) h
+-- above 0, and a u64
+abbrev IsSize : ℕ → Type 0
+IsSize n = Positive n × (n < 2 ^ 64)
+
+is_size : (k : ℕ) → suc k < 2 ^ 32 → IsSize (suc k)
+is_size k h = (tt, omega arith)
+
+one_is_size : (a b : Option ℕ) → ((n : ℕ) → a ≡ Some n → n < 2 ^ 32) → (n : ℕ) → one_size a b ≡ Some n → IsSize n
+one_is_size None b f n h = none-some n h
+one_is_size (Some zero) b f n h = none-some n h
+one_is_size (Some (suc k)) None f n h = none-some n h
+one_is_size (Some (suc k)) (Some m) f n h = by (nat_eq (suc k) m) h
   where
-    by : (b : Bool) → (if b then Some (suc k) else None) ≡ Some n → Positive n
-    by true g = subst Positive (some-same (suc k) n g) tt
+    by : (b : Bool) → (if b then Some (suc k) else None) ≡ Some n → IsSize n
+    by true g = subst IsSize (some-same (suc k) n g) (is_size k (f (suc k) refl))
     by false g = none-some n g
 
-fixed_positive : (rules : ListRules) (contains : MaybeSchema) (n : ℕ) → fixed_size rules contains ≡ Some n → Positive n
-fixed_positive rules contains n h = by (is_none rules.unique_items && not (is_given contains)) h
+fixed_is_size : (rules : ListRules) (contains : MaybeSchema) → AsksForFew rules → (n : ℕ) → fixed_size rules contains ≡ Some n → IsSize n
+fixed_is_size rules contains f n h = by (is_none rules.unique_items && not (is_given contains)) h
   where
-    by : (b : Bool) → (if b then one_size rules.min_items rules.max_items else None) ≡ Some n → Positive n
-    by true g = one_positive rules.min_items rules.max_items n g
+    by : (b : Bool) → (if b then one_size rules.min_items rules.max_items else None) ≡ Some n → IsSize n
+    by true g = one_is_size rules.min_items rules.max_items f n g
     by false g = none-some n g
 
 places_filled : (n : ℕ) (us : Schemas) → Positive n → Filled (listed_parts 0 n us) (unlisted n us)
@@ -96,10 +105,19 @@ places_filled zero us h = absurd h
 places_filled (suc n) no_more h = tt
 places_filled (suc n) (schema u us) h = tt
 
-fixed_shaped : (n : ℕ) (places : Places) (others : MaybeSchema) → Positive n → RowIsShaped (fixed_row n places others)
-fixed_shaped n no_items others h = tt
-fixed_shaped n (each_item u) others h = tt
-fixed_shaped n (by_place us) others h = places_filled n us h
+places_counted : (i n : ℕ) (us : Schemas) → length (listed_parts i n us) + unlisted n us ≡ n
+places_counted i zero no_more = omega arith
+places_counted i zero (schema u us) = omega arith
+places_counted i (suc n) no_more = omega arith
+places_counted i (suc n) (schema u us) = let rec = places_counted (suc i) n us in omega arith
+
+fixed_shaped : (n : ℕ) (places : Places) (others : MaybeSchema) → IsSize n → RowIsShaped (fixed_row n places others)
+fixed_shaped n no_items others h = h.1
+fixed_shaped n (each_item u) others h = h.1
+fixed_shaped n (by_place us) others h =
+    let all = places_counted 0 n us in
+    let few = h.1 in
+    (places_filled n us h.0, omega arith)
 
 open_shaped : (rules : ListRules) (q : Part) → RowIsShaped (open_list rules q)
 open_shaped rules q = by (is_true rules.unique_items)
@@ -108,7 +126,7 @@ open_shaped rules q = by (is_true rules.unique_items)
     by true = tt
     by false = tt
 
-sized_shaped : (places : Places) (others contains : MaybeSchema) (rules : ListRules) (o : Option ℕ) → ((n : ℕ) → o ≡ Some n → Positive n) → RowIsShaped (sized_finding places others contains rules o).row
+sized_shaped : (places : Places) (others contains : MaybeSchema) (rules : ListRules) (o : Option ℕ) → ((n : ℕ) → o ≡ Some n → IsSize n) → RowIsShaped (sized_finding places others contains rules o).row
 sized_shaped places others contains rules (Some n) f = fixed_shaped n places others (f n refl)
 sized_shaped places others contains rules None f = by (is_by_place places || is_given contains)
   where
@@ -116,9 +134,9 @@ sized_shaped places others contains rules None f = by (is_by_place places || is_
     by true = tt
     by false = open_shaped rules (each_part places)
 
-array_shaped : (ms : Lists) → RowIsShaped (array_finding ms).row
-array_shaped no_lists = tt
-array_shaped (lists places others contains rules) = sized_shaped places others contains rules (fixed_size rules contains) (fixed_positive rules contains)
+array_shaped : (d : Document) (ms : Lists) → ProperLists AsksForFew d ms → RowIsShaped (array_finding ms).row
+array_shaped d no_lists h = tt
+array_shaped d (lists places others contains rules) h = sized_shaped places others contains rules (fixed_size rules contains) (fixed_is_size rules contains h.3)
 
 -- ---- objects
 
@@ -352,13 +370,13 @@ module _ (r : Relations) (d : Document) (p : Plain) (ss : Same) (ls : Lists) (ns
 
   -- ---- the table
 
-  row_shaped : RowIsShaped (first_line (lines r d p ss ls ns)).row
-  row_shaped = first_shaped (lines r d p ss ls ns) (
+  row_shaped : ProperLists AsksForFew d ls → RowIsShaped (first_line (lines r d p ss ls ns)).row
+  row_shaped h = first_shaped (lines r d p ss ls ns) (
     tt,
-    (nullable_shaped (type_beside_null p.types), (text_shaped (given_format p), (text_shaped (given_format p), (enumerated_shaped (listed p.enum_values), (constant_shaped (constant_of p), (tt, (boolean_shaped p.enum_values, (object_shaped d.setting ns, (object_shaped d.setting ns, (array_shaped ls, (array_shaped ls, (tt, (tt, (reference_shaped p.reference, (reference_shaped p.reference, (tt, (allowed_shaped (made (object (less_enum p) ss ls ns)) (listed p.enum_values), (listed_shaped (listed p.enum_values), (subschemas_shaped (wanted_of p) ss, (tt, (tt, (tt, (typed_shaped (only_type p.types), (tt, tt)))))))))))))))))))))))),
+    (nullable_shaped (type_beside_null p.types), (text_shaped (given_format p), (text_shaped (given_format p), (enumerated_shaped (listed p.enum_values), (constant_shaped (constant_of p), (tt, (boolean_shaped p.enum_values, (object_shaped d.setting ns, (object_shaped d.setting ns, (array_shaped d ls h, (array_shaped d ls h, (tt, (tt, (reference_shaped p.reference, (reference_shaped p.reference, (tt, (allowed_shaped (made (object (less_enum p) ss ls ns)) (listed p.enum_values), (listed_shaped (listed p.enum_values), (subschemas_shaped (wanted_of p) ss, (tt, (tt, (tt, (typed_shaped (only_type p.types), (tt, tt)))))))))))))))))))))))),
   )
 
-pub finding_shaped : (r : Relations) (d : Document) (s : Schema) → RowIsShaped (row_of r d s)
-finding_shaped r d (boolean true) = tt
-finding_shaped r d (boolean false) = never_deep []
-finding_shaped r d (object p ss ls ns) = row_shaped r d p ss ls ns
+pub finding_shaped : (r : Relations) (d : Document) (s : Schema) → IsProper AsksForFew d s → RowIsShaped (row_of r d s)
+finding_shaped r d (boolean true) h = tt
+finding_shaped r d (boolean false) h = never_deep []
+finding_shaped r d (object p ss ls ns) h = row_shaped r d p ss ls ns h.2

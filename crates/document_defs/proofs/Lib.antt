@@ -1,5 +1,5 @@
-pub mod Composed
 pub mod Deep
 pub mod Rows
 pub mod Findings
 pub mod Shaped
+pub mod Composed

@@ -1,16 +1,16 @@
 -- Each row makes such an entry of parts that are converted to such.
-use Rattle.std.proofs.Common.{◌≡◌, ℕ, zero, suc, List, [], ◌∷◌, Bool, true, false, ◌&&◌, not, bytes_eq, refl, sym, ap, ◌∙◌, true≢false, Some, None, Option}
+use Rattle.std.proofs.Common.{◌≡◌, ◌<◌, ◌^◌, ◌+◌, ℕ, zero, suc, List, [], ◌∷◌, Bool, true, false, ◌&&◌, not, bytes_eq, refl, sym, ap, ◌∙◌, true≢false, Some, None, Option, length, arith}
 use Rattle.std.specs.Prelude.{if◌then◌else◌}
 use Rattle.std.specs.List.{list_all}
 use Rattle.model_defs.specs.Model.{TagModel, external_tag, internal_tag, adjacent_tag, untagged, RuleD, text_rule, allow_rule, deny_rule}
-use Rattle.entry_defs.specs.Entry.{Entry, boolean_entry, integer_entry, text_entry, native_entry, any_entry, unit_entry, option_entry, vec_entry, set_entry, map_entry, tuple_entry, array_entry, reference, item, Entries, no_entries, entry_then, entry_again, struct_shape, enum_shape, newtype_shape, Rest, no_rest, rest, rest_of, Fields, no_fields, fields_of, tuple_contents, newtype_contents, struct_contents}
+use Rattle.entry_defs.specs.Entry.{Entry, boolean_entry, integer_entry, text_entry, native_entry, any_entry, unit_entry, option_entry, vec_entry, set_entry, map_entry, tuple_entry, array_entry, reference, item, Entries, no_entries, entry_then, entry_again, entries_of, struct_shape, enum_shape, newtype_shape, Rest, no_rest, rest, rest_of, Fields, no_fields, fields_of, tuple_contents, newtype_contents, struct_contents}
 use Rattle.emit_defs.specs.Formed.{HasOne, HasTwo, RestMay, StandsBeside, StandBeside, TagFits, RuleFits}
 use Rattle.convert_defs.specs.Row.{Part, FieldRow, field_parts, OutsideRow, outside_parts, further_parts, VariantBody, unit_body, part_body, fields_body, body_parts, VariantRow, variants_parts, Row, leaf_row, as_it_is_row, option_row, ruled_row, vec_row, set_row, array_row, tuple_row, map_row, pattern_map_row, struct_row, enum_row, merged_row, refused_row, row_parts}
 use Rattle.convert_defs.specs.Convert.{same_flag, unit_in, has_two_places, is_without_rest, content_of, labeled, nullable_entry, alike_fields, alike_entries, row_fields, row_entries, outside_fields, is_closed, body_content, row_variants, entry_of}
 use Rattle.convert_defs.proofs.Bare.{and_right}
 use Rattle.convert_defs.proofs.Views.{AllParts}
 use Rattle.convert_defs.proofs.Rows.{parts-left, parts-right}
-use Rattle.document_defs.proofs.Deep.{Deep, DeepEntries, DeepFields, DeepVariants, DeepContents}
+use Rattle.document_defs.proofs.Deep.{Few, Deep, DeepEntries, DeepFields, DeepVariants, DeepContents}
 
 -- ---- what a row is to say
 
@@ -50,7 +50,8 @@ TagMay untagged ws = Unit {0}
 abbrev pub RowIsShaped : Row → Type 0
 RowIsShaped (leaf_row e) = Deep e
 RowIsShaped (ruled_row p u) = NoTexts u
-RowIsShaped (tuple_row ps n p) = Filled ps n
+RowIsShaped (array_row p n) = n < 2 ^ 64
+RowIsShaped (tuple_row ps n p) = Filled ps n × (length ps + n < 2 ^ 64)
 RowIsShaped (struct_row c fs o) = c ≡ true → keeps_some o ≡ false
 RowIsShaped (enum_row tag c ws) = TagMay tag ws
 RowIsShaped _ = Unit {0}
@@ -80,7 +81,7 @@ content_deep : (tag : TagModel) (closed : Bool) (e : Entry) → Deep e → DeepC
 content_deep tag closed (tuple_entry us) x = by (has_two_places us) refl
   where
     by : (b : Bool) → has_two_places us ≡ b → DeepContents (if b then tuple_contents us else newtype_contents (tuple_entry us))
-    by true h = (two_places us h, x.1)
+    by true h = (two_places us h, x.1, x.2)
     by false h = x
 content_deep tag closed unit_entry x = unit_deep tag
 content_deep tag closed (item l (struct_shape c fs)) x = by (same_flag c closed && is_without_rest (rest_of fs)) refl
@@ -224,6 +225,21 @@ module _ (conv : Part → Entry) where
   has_one [] (suc (suc n)) e h = tt
   has_one (p ∷ ps) n e h = tt
 
+  counted : (ps : List Part) (more : Entries) → length (entries_of (row_entries conv ps more)) ≡ length ps + length (entries_of more)
+  counted [] more = omega arith
+  counted (p ∷ ps) more = let rec = counted ps more in omega arith
+
+  counted_alike : (n : ℕ) (e : Entry) → length (entries_of (alike_entries n e)) ≡ n
+  counted_alike zero e = refl
+  counted_alike (suc zero) e = refl
+  counted_alike (suc (suc n)) e = ap suc (counted_alike (suc n) e)
+
+  few : (ps : List Part) (n : ℕ) (e : Entry) → length ps + n < 2 ^ 64 → Few (row_entries conv ps (alike_entries n e))
+  few ps n e h =
+      let all = counted ps (alike_entries n e) in
+      let alike = counted_alike n e in
+      omega arith
+
   outside_deep : (o : Option OutsideRow) → AllDeep (outside_parts o) → DeepFields (outside_fields conv o)
   outside_deep None h = tt
   outside_deep (Some o) h = alike_deep o.names o.keeps_rest (conv o.part) h.0
@@ -264,9 +280,9 @@ module _ (conv : Part → Entry) where
   row_deep name (ruled_row p u) x h = (rule_fits (conv p) u x, h.0)
   row_deep name (vec_row p) x h = h.0
   row_deep name (set_row p) x h = h.0
-  row_deep name (array_row p n) x h = h.0
+  row_deep name (array_row p n) x h = (x, h.0)
   row_deep name (tuple_row ps n p) x h =
-      (has_one ps n (conv p) x, entries_deep ps (alike_entries n (conv p)) (parts-left (λ p. Deep (conv p)) ps (further_parts n p) h) (places_deep n p (parts-right (λ p. Deep (conv p)) ps (further_parts n p) h)))
+      (has_one ps n (conv p) x.0, few ps n (conv p) x.1, entries_deep ps (alike_entries n (conv p)) (parts-left (λ p. Deep (conv p)) ps (further_parts n p) h) (places_deep n p (parts-right (λ p. Deep (conv p)) ps (further_parts n p) h)))
   row_deep name (map_row k p) x h = (h.0, h.1.0)
   row_deep name (pattern_map_row qs p) x h = ((tt, tt), h.0)
   row_deep name (struct_row c fs o) x h = (

@@ -1,4 +1,4 @@
--- The table of a document that was read is as emission asks, but for sizes, and so it can be written.
+-- The table of a document that was read is as emission asks, and so its plan can be written.
 use Rattle.std.proofs.Common.{ℕ, zero, suc, List, [], ◌∷◌, ◌++◌, map, Bool, true, false, Some, None}
 use Rattle.std.specs.List.{AllByRecursion}
 use Rattle.schema_defs.specs.Texts.{Relations}
@@ -14,42 +14,45 @@ use Rattle.convert_defs.specs.Row.{Part, child, of_branch, lone, made, row_parts
 use Rattle.convert_defs.specs.RootReference.{refers_to_root}
 use Rattle.convert_defs.specs.Table.{row_of}
 use Rattle.convert_defs.specs.Convert.{Handed, Converts, named_by, most_made, part_entry, made_within, raw_entry, past_branch, as_item, root_name, definition_entry, root_entry, definition_target, root_targets, root_use, table_of}
+use Rattle.convert_defs.specs.Proper.{IsProper, AllAreProper}
 use Rattle.convert_defs.proofs.Views.{AllParts}
-use Rattle.document_laws.proofs.Proper.{read_tables_are_fit}
-use Rattle.document_defs.specs.Sizes.{ShapeIsSized}
-use Rattle.document_defs.specs.Laws.{ReadTablesAreShaped, ReadDocumentsCanBeWritten}
+use Rattle.convert_defs.proofs.Inside.{In, parts-in}
+use Rattle.document_laws.specs.Laws.{AsksForFew}
+use Rattle.document_laws.proofs.Proper.{documents_are_sized, read_tables_are_fit, read_documents_are_planned}
+use Rattle.document_defs.specs.Laws.{ReadTablesAreShaped, ReadPlansAreEmittable}
 use Rattle.document_defs.proofs.Deep.{Deep, DeepShape, both_entry, both_shape}
 use Rattle.document_defs.proofs.Rows.{row_deep}
 use Rattle.document_defs.proofs.Findings.{finding_shaped}
 
 module _ (r : Relations) (d : Document) where
   abbrev Deeply : Converts → Type 0
-  Deeply f = (h : Handed) (s : Schema) → Deep (f h s)
+  Deeply f = (h : Handed) (s : Schema) → IsProper AsksForFew d s → Deep (f h s)
 
-  part_deep : (below inner here : Converts) → Deeply below → Deeply inner → Deeply here → (h : Handed) (p : Part) → Deep (part_entry below inner here h p)
-  part_deep below inner here f g k h (child l s) = f None s
-  part_deep below inner here f g k h (of_branch l s) = g None s
-  part_deep below inner here f g k h (lone l s) = f h s
-  part_deep below inner here f g k h (made s) = k h s
+  part_deep : (below inner here : Converts) → Deeply below → Deeply inner → Deeply here → (h : Handed) (p : Part) → In AsksForFew d p → Deep (part_entry below inner here h p)
+  part_deep below inner here f g k h (child l s) x = f None s x
+  part_deep below inner here f g k h (of_branch l s) x = g None s x
+  part_deep below inner here f g k h (lone l s) x = f h s x
+  part_deep below inner here f g k h (made s) x = k h s x
 
-  parts_deep : (conv : Part → Entry) → ((p : Part) → Deep (conv p)) → (ps : List Part) → AllParts (λ p. Deep (conv p)) ps
-  parts_deep conv f [] = tt
-  parts_deep conv f (p ∷ ps) = (f p, parts_deep conv f ps)
+  parts_deep : (conv : Part → Entry) → ((p : Part) → In AsksForFew d p → Deep (conv p)) → (ps : List Part) → AllParts (In AsksForFew d) ps → AllParts (λ p. Deep (conv p)) ps
+  parts_deep conv f [] x = tt
+  parts_deep conv f (p ∷ ps) x = (f p x.0, parts_deep conv f ps x.1)
 
   made_deep : (below inner : Converts) → Deeply below → Deeply inner → (m : ℕ) → Deeply (made_within r d below inner m)
-  made_deep below inner f g zero h s = tt
-  made_deep below inner f g (suc m) h s =
+  made_deep below inner f g zero h s x = tt
+  made_deep below inner f g (suc m) h s x =
       let here = made_within r d below inner m in
-      row_deep (part_entry below inner here h) (named_by h s) (row_of r d s) (finding_shaped r d s) (parts_deep (part_entry below inner here h) (part_deep below inner here f g (made_deep below inner f g m) h) (row_parts (row_of r d s)))
+      let conv = part_entry below inner here h in
+      row_deep conv (named_by h s) (row_of r d s) (finding_shaped r d s x) (parts_deep conv (part_deep below inner here f g (made_deep below inner f g m) h) (row_parts (row_of r d s)) (parts-in AsksForFew d r s x))
 
   mutual
     raw_deep : (n : ℕ) → Deeply (raw_entry r d n)
-    raw_deep zero h s = tt
-    raw_deep (suc n) h s = made_deep (raw_entry r d n) (past_branch r d n) (raw_deep n) (past_deep n) most_made h s
+    raw_deep zero h s x = tt
+    raw_deep (suc n) h s x = made_deep (raw_entry r d n) (past_branch r d n) (raw_deep n) (past_deep n) most_made h s x
 
     past_deep : (n : ℕ) → Deeply (past_branch r d n)
-    past_deep zero h s = tt
-    past_deep (suc n) h s = raw_deep n h s
+    past_deep zero h s x = tt
+    past_deep (suc n) h s x = raw_deep n h s x
 
   -- ---- the table
 
@@ -69,32 +72,35 @@ module _ (r : Relations) (d : Document) where
   item_deep n (array_entry e m) x = (tt, x)
   item_deep n (reference t) x = (tt, tt)
 
-  module _ (depth : ℕ) where
+  module _ (depth : ℕ) (proper : AllAreProper AsksForFew d) where
     root_deep : (b : Bool) → AllByRecursion (λ x. DeepShape x.led_to.shape) (root_targets r d depth b)
-    root_deep true = (item_deep (root_name d.root) (root_entry r d depth) (raw_deep (suc depth) (Some (root_name d.root)) d.root), tt)
+    root_deep true = (item_deep (root_name d.root) (root_entry r d depth) (raw_deep (suc depth) (Some (root_name d.root)) d.root proper.root), tt)
     root_deep false = tt
 
-    targets_deep : (ds : List Definition) → AllByRecursion (λ x. DeepShape x.led_to.shape) (map (definition_target r d depth) ds ++ root_targets r d depth (refers_to_root d))
-    targets_deep [] = root_deep (refers_to_root d)
-    targets_deep (e ∷ ds) = (item_deep e.name (definition_entry r d depth e) (raw_deep (suc depth) (Some e.name) e.body), targets_deep ds)
+    targets_deep : (ds : List Definition) → AllByRecursion (λ e. IsProper AsksForFew d e.body) ds → AllByRecursion (λ x. DeepShape x.led_to.shape) (map (definition_target r d depth) ds ++ root_targets r d depth (refers_to_root d))
+    targets_deep [] x = root_deep (refers_to_root d)
+    targets_deep (e ∷ ds) x = (item_deep e.name (definition_entry r d depth e) (raw_deep (suc depth) (Some e.name) e.body x.0), targets_deep ds x.1)
 
     use_deep : (b : Bool) → Deep (root_use r d depth b)
     use_deep true = tt
-    use_deep false = raw_deep (suc depth) (Some (root_name d.root)) d.root
+    use_deep false = raw_deep (suc depth) (Some (root_name d.root)) d.root proper.root
 
-both_targets : (P : List ℕ → Shape → Type 0) (Q : Target → Type 0) (xs : List TargetEntry) → AllByRecursion (λ x. P x.led_to.name x.led_to.shape × EachInShape P Q x.led_to.shape) xs → AllByRecursion (λ x. DeepShape x.led_to.shape) xs → AllByRecursion (λ x. ShapeIsSized x.led_to.shape) xs
+both_targets : (P : List ℕ → Shape → Type 0) (Q : Target → Type 0) (xs : List TargetEntry) → AllByRecursion (λ x. P x.led_to.name x.led_to.shape × EachInShape P Q x.led_to.shape) xs → AllByRecursion (λ x. DeepShape x.led_to.shape) xs
     → AllByRecursion (λ x. ShapeIsShaped x.led_to.shape × EachInShape Shaped Anywhere x.led_to.shape) xs
-both_targets P Q [] a h z = tt
-both_targets P Q (x ∷ xs) a h z = (both_shape P Q x.led_to.shape a.0.1 h.0 z.0, both_targets P Q xs a.1 h.1 z.1)
+both_targets P Q [] a h = tt
+both_targets P Q (x ∷ xs) a h = (both_shape P Q x.led_to.shape a.0.1 h.0, both_targets P Q xs a.1 h.1)
 
 pub read_tables_are_shaped : ReadTablesAreShaped
-read_tables_are_shaped r d depth w z =
+read_tables_are_shaped r d depth w =
     let t = table_of r d depth in
     let fit = read_tables_are_fit r d depth w in
+    let proper = documents_are_sized d w in
     record {
-      trees = (both_entry (Ends t) (Leads t) (root_use r d depth (refers_to_root d)) fit.trees.0 (use_deep r d depth (refers_to_root d)) z.trees.0, tt);
-      targets = both_targets (Ends t) (Leads t) t.targets fit.targets (targets_deep r d depth d.definitions) z.targets;
+      trees = (both_entry (Ends t) (Leads t) (root_use r d depth (refers_to_root d)) fit.trees.0 (use_deep r d depth proper (refers_to_root d)), tt);
+      targets = both_targets (Ends t) (Leads t) t.targets fit.targets (targets_deep r d depth proper d.definitions proper.definitions);
     }
 
-pub read_documents_can_be_written : ReadDocumentsCanBeWritten
-read_documents_can_be_written r d depth w z few texts = record { formed = named_tables_are_formed is_good_name (table_of r d depth) (read_tables_are_shaped r d depth w z) few; texts = texts }
+pub read_plans_are_emittable : ReadPlansAreEmittable
+read_plans_are_emittable r d depth w =
+    let p = read_documents_are_planned r d depth w in
+    record { sound = p.sound; named = p.named; formed = named_tables_are_formed is_good_name (table_of r d depth) (read_tables_are_shaped r d depth w) }

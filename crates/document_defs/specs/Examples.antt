@@ -52,3 +52,6 @@ pub record Printed : Type 0 where
       codes "# [ serde ( transparent ) ] struct A ( :: std :: option :: Option < :: std :: string :: String > , ) ;"
       ∷ codes "struct Root { # [ serde ( default , deserialize_with = \"typify_present::some\" , skip_serializing_if = \"::std::option::Option::is_none\" ) ] a : :: std :: option :: Option < :: std :: string :: String > , # [ serde ( default , skip_serializing_if = \"::std::option::Option::is_none\" ) ] b : :: std :: option :: Option < :: std :: string :: String > , # [ serde ( default , skip_serializing_if = \"::std::vec::Vec::is_empty\" ) ] c : :: std :: vec :: Vec < :: serde_json :: Value > , # [ serde ( default = \"typify_defaults::d0\" ) ] d : i64 , # [ serde ( deserialize_with = \"typify_present::whole\" ) ] e : :: std :: option :: Option < :: std :: string :: String > , # [ serde ( default , skip_serializing_if = \"::std::collections::HashMap::is_empty\" ) ] f : :: std :: collections :: HashMap < :: std :: string :: String , i64 > , # [ serde ( default , skip_serializing_if = \"::std::collections::HashSet::is_empty\" ) ] g : :: std :: collections :: HashSet < :: serde_json :: Value > , # [ serde ( deserialize_with = \"typify_present::whole\" ) ] h : A , }"
       ∷ [])
+  pub tuple_and_array : printed 8 (obj ("properties" ≔ (obj ("p" ≔ (obj ("items" ≔ (arr ((obj ("type" ≔ (str "integer") ∷ [])) ∷ (obj ("type" ≔ (str "string") ∷ [])) ∷ [])) ∷ "maxItems" ≔ (num 2) ∷ "minItems" ≔ (num 2) ∷ "type" ≔ (str "array") ∷ [])) ∷ "q" ≔ (obj ("items" ≔ (obj ("type" ≔ (str "boolean") ∷ [])) ∷ "maxItems" ≔ (num 3) ∷ "minItems" ≔ (num 3) ∷ "type" ≔ (str "array") ∷ [])) ∷ [])) ∷ "required" ≔ (arr ((str "p") ∷ (str "q") ∷ [])) ∷ "type" ≔ (str "object") ∷ [])) ≡ Some (
+      codes "struct Root { p : ( i64 , :: std :: string :: String , ) , q : [ bool ; 3 ] , }"
+      ∷ [])
