@@ -128,7 +128,7 @@ pub record SubschemaExamples : Type 0 where
   pub any_one_before_types : IsFault 9 (typed "string") (obj ("type" ≔ str "integer" ∷ "anyOf" ≔ arr (yes ∷ []) ∷ "oneOf" ≔ arr (yes ∷ []) ∷ [])) (unsupported any_one)
   pub conditionals_before_types : IsFault 9 (typed "string") (obj ("type" ≔ str "integer" ∷ "if" ≔ yes ∷ [])) (unsupported conditional)
   pub false_before_unsupported : IsNever no (obj ("anyOf" ≔ arr (yes ∷ []) ∷ "oneOf" ≔ arr (yes ∷ []) ∷ [])) []
-  pub steps_are_spent : IsFault 0 (obj []) (obj ("allOf" ≔ arr (yes ∷ []) ∷ [])) depth
+  pub steps_are_spent : IsFault 0 (obj []) (obj ("allOf" ≔ arr (yes ∷ []) ∷ [])) (depth [])
   pub steps_are_enough : Makes (obj []) (obj ("allOf" ≔ arr (yes ∷ []) ∷ [])) [] (obj [])
 
 pub record LessExamples : Type 0 where

@@ -119,7 +119,7 @@ pub record Merger : Type 0 where
   pub less : Schema → Schema → Outcome Schema
 
 abbrev pub spent : Schema → Schema → Outcome Schema
-spent a b = fault depth
+spent a b = fault (depth [])
 
 -- what merges the parts, where n steps are left at the whole
 abbrev pub below : Document → ℕ → Merger

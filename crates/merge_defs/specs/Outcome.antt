@@ -1,6 +1,7 @@
 -- What a merge answers: something, or never, each with notes; or a fault.
 use Rattle.std.specs.Prelude.{List, [], ◌∷◌, ◌++◌, Bool, true, false, Option, Some, None, if◌then◌else◌}
 use Rattle.std.specs.List.{list_any}
+use Rattle.schema_defs.specs.Location.{Location}
 
 -- narrowed: less is admitted than by both sides; widened: more
 pub data Way : Type 0 where
@@ -29,8 +30,9 @@ pub data Unsupported : Type 0 where
   pattern_names : Unsupported
   subtracting : Unsupported
 
+-- Depth with the walk that has too many steps, and with none where steps alone are counted
 pub data Fault : Type 0 where
-  depth : Fault
+  depth : List Location → Fault
   unsupported : Unsupported → Fault
 
 pub data Outcome (A : Type 0) : Type 0 where

@@ -42,7 +42,7 @@ either_way : {A : Type 0} (b : Bool) (o u : Outcome A) → HasNoFault o → HasN
 either_way true o u h i = h
 either_way false o u h i = i
 
-of_both : {A : Type 0} (f : A → A → Outcome (Option A)) → ((x y : A) → HasNoFault (f x y)) → (x y : Option A) → HasNoFault (where_both f x y)
+pub of_both : {A : Type 0} (f : A → A → Outcome (Option A)) → ((x y : A) → HasNoFault (f x y)) → (x y : Option A) → HasNoFault (where_both f x y)
 of_both f h None y = tt
 of_both f h (Some x) None = tt
 of_both f h (Some x) (Some y) = h x y
@@ -52,7 +52,7 @@ of_both f h (Some x) (Some y) = h x y
 named_type : (b : Bool) (k : InstanceType) → HasNoFault (one_if_named b k)
 named_type b k = either_way b (answer [] (Some (one_type k))) (never []) tt tt
 
-types : (x y : Types) → HasNoFault (two_types x y)
+pub types : (x y : Types) → HasNoFault (two_types x y)
 types (one_type k) (one_type l) = named_type (same_type k l) k
 types (one_type k) (many_types ls) = named_type (names_type ls k) k
 types (many_types ks) (one_type l) = named_type (names_type ks l) l
@@ -63,7 +63,7 @@ types (many_types ks) (many_types ls) = some (filter (λ k. names_type ks k && n
     some (k ∷ []) = tt
     some (k ∷ l ∷ ks) = tt
 
-formats : (f g : List ℕ) → HasNoFault (two_formats f g)
+pub formats : (f g : List ℕ) → HasNoFault (two_formats f g)
 formats f g = go (bytes_eq f g) (is_ip f && is_ip_of_one_kind g) (is_ip g && is_ip_of_one_kind f)
   where
     go : (a b c : Bool) → HasNoFault (if a then answer [] (Some f) else if b then answer [] (Some g) else if c then answer [] (Some f) else never (less_than of_formats ∷ []))
@@ -75,7 +75,7 @@ formats f g = go (bytes_eq f g) (is_ip f && is_ip_of_one_kind g) (is_ip g && is_
 bounded_ends : (whole : Bool) (m : Option ℕ) (low high : Bound) → HasNoFault (bounded whole m low high)
 bounded_ends whole m low high = either_way (bounds_cross low high) (never_unless whole of_clash) (answer [] (numbers_of m low high)) tt tt
 
-numbers : (whole : Bool) (x y : Numbers) → HasNoFault (two_numbers whole x y)
+pub numbers : (whole : Bool) (x y : Numbers) → HasNoFault (two_numbers whole x y)
 numbers whole x y = either_way (same_numbers x y) (answer [] (Some x)) (noted notes rest) tt (with_notes notes rest
     (bounded_ends whole (small_multiple (either lcm x.multiple_of y.multiple_of))
     (lower_bound (either greatest_int x.minimum y.minimum) (either greatest_int x.exclusive_minimum y.exclusive_minimum))
@@ -89,7 +89,7 @@ numbers whole x y = either_way (same_numbers x y) (answer [] (Some x)) (noted no
         (lower_bound (either greatest_int x.minimum y.minimum) (either greatest_int x.exclusive_minimum y.exclusive_minimum))
         (upper_bound (either least_int x.maximum y.maximum) (either least_int x.exclusive_maximum y.exclusive_maximum))
 
-texts : (whole : Bool) (x y : Texts) → HasNoFault (two_texts whole x y)
+pub texts : (whole : Bool) (x y : Texts) → HasNoFault (two_texts whole x y)
 texts whole x y = go (same_texts x y) (sizes_cross (joined_texts x y).min_length (joined_texts x y).max_length)
   where
     go : (a b : Bool) → HasNoFault (if a then answer [] (Some x) else if b then never_unless whole of_clash else answer [] (Some (joined_texts x y)))
@@ -97,7 +97,7 @@ texts whole x y = go (same_texts x y) (sizes_cross (joined_texts x y).min_length
     go false true = tt
     go false false = tt
 
-values : (vs ws : List Value) → HasNoFault (two_lists vs ws)
+pub values : (vs ws : List Value) → HasNoFault (two_lists vs ws)
 values vs ws = some (filter (λ v. is_listed v ws) vs)
   where
     some : (xs : List Value) → HasNoFault (some_values xs)
@@ -107,7 +107,7 @@ values vs ws = some (filter (λ v. is_listed v ws) vs)
 -- ---- one step below
 
 -- as BareMaybe of a schema
-abbrev Below : Schema → ℕ → Type 0
+abbrev pub Below : Schema → ℕ → Type 0
 Below s n = BareMaybe (the_schema s) n
 
 true_below : (n : ℕ) (s : Schema) → Below s n → Below (boolean true) n
@@ -138,7 +138,7 @@ or_true_below : (n : ℕ) (m : MaybeSchema) → Below (boolean true) n → BareM
 or_true_below n no_schema t h = t
 or_true_below n (the_schema s) t h = h
 
-at_below : (n : ℕ) (k : List ℕ) (ps : Properties) → BareProperties ps n → BareMaybe (property_at k ps) n
+pub at_below : (n : ℕ) (k : List ℕ) (ps : Properties) → BareProperties ps n → BareMaybe (property_at k ps) n
 at_below n k no_properties h = tt
 at_below zero k (property j s ps) h = absurd h
 at_below (suc n) k (property j s ps) h = go (bytes_eq k j) (at_below (suc n) k ps h.1)

@@ -18,3 +18,4 @@ pub mod Lcm
 pub mod OneName
 pub mod Growing
 pub mod Ending
+pub mod BareCalls

@@ -7,7 +7,7 @@ use Rattle.std.proofs.lemmas.Slice.Eq.{bytes_eq-Decides}
 use Rattle.json_value.specs.Value as value
 use Rattle.json_value.specs.Value.{Value, Items, Members, null, number, fraction, text, list, item, no_items as end_items, member, no_members, item_count, has_name, is_whole, all_whole, members_whole}
 use Rattle.schema_defs.specs.Texts.{Relations, IsLawful}
-use Rattle.schema_defs.specs.Schema.{Texts, Plain, Schema, boolean, object, Same, no_same, same_value, Lists, no_lists, Named, no_named, MaybeSchema, no_schema, the_schema, MaybeSchemas, no_list, the_list, schema_list, schemas, Definition, Document}
+use Rattle.schema_defs.specs.Schema.{Texts, Plain, Schema, boolean, object, Same, no_same, same_value, Lists, no_lists, Named, no_named, MaybeSchema, no_schema, the_schema, MaybeSchemas, no_list, the_list, Schemas, schema_list, schemas, Definition, Document}
 use Rattle.schema_defs.specs.Layer.{Parts, if_given, plain_agrees, parts_agree, judge_same, judge_all_of, judge_any_of, judge_one_of, judge_not}
 use Rattle.schema_defs.specs.Admits.{admits, admits-level, admits_with, item_judges, member_parts, counts_as_absent, parts_of, allowed, target, follow, defined, defined_as, definition_name, is_root_reference}
 use Rattle.schema_defs.specs.Walks.{IsGuarded}
@@ -22,15 +22,15 @@ use Rattle.enum_defs.specs.Kinds.{kinds}
 use Rattle.enum_defs.specs.Exclusive.{is_disjoint, are_apart}
 use Rattle.merge_defs.specs.Objects.{no_plain, is_false, or_false}
 use Rattle.merge_defs.specs.Members.{only_same}
-use Rattle.merge_defs.specs.Less.{one_name_alone}
-use Rattle.merge_defs.specs.Merge.{with_subschemas_layer, join_layer, less_layer, less_object, below, reference_to, join, less}
-use Rattle.merge_laws.specs.Laws.{Meets, IsProper, ProperSame, ProperDocument, ProperDefinitions, MergesAdmitBoth}
+use Rattle.merge_defs.specs.Less.{one_name_alone, merge_schemas}
+use Rattle.merge_defs.specs.Merge.{with_subschemas_layer, by_references, join_layer, less_layer, less_object, below, reference_to, join, less}
+use Rattle.merge_laws.specs.Laws.{Meets, IsProper, ProperSame, ProperAll, ProperDocument, ProperDefinitions, MergesAdmitBoth}
 use Rattle.merge_laws.proofs.Steps.{meets-wanted, no_no, and-1, and-2, Each}
 use Rattle.merge_laws.proofs.Objects.{IsFalse, IsJudge}
 use Rattle.merge_laws.proofs.Absent.{IsMember}
 use Rattle.merge_laws.proofs.Members.{JudgesSame, count, same_says, each_says, any_says, one_says, not_says}
 use Rattle.merge_laws.proofs.Facts.{item_judges_of, member_judges_of, Coherent}
-use Rattle.merge_laws.proofs.Whole.{NumbersMeet, join_layer_meets, with_subschemas_meet}
+use Rattle.merge_laws.proofs.Whole.{NumbersMeet, by_references_meet, join_layer_meets, with_subschemas_meet}
 use Rattle.merge_laws.proofs.Less.{less_layer_meets, merge_schemas_meet}
 
 and-true : (b : Bool) → (b && true) ≡ b
@@ -111,7 +111,7 @@ module _ (r : Relations) (d : Document) where
         given None = refl
         given (Some q) = reference_follows guarded v q
 
-    only_form : (v : Value) (ss : Same) → admits r d v (object no_plain ss no_lists no_named) ≡ same_says (admits r d v) ss
+    pub only_form : (v : Value) (ss : Same) → admits r d v (object no_plain ss no_lists no_named) ≡ same_says (admits r d v) ss
     only_form v ss = form v no_plain ss no_lists no_named ∙ (λ i. ((no_plain_says v i && true) && no_parts_say v (parts_of r d v) i) && same_says (admits r d v) ss)
 
     tail : (b : Bool) → (((b && true) && true) && true) ≡ b
@@ -168,7 +168,7 @@ module _ (r : Relations) (d : Document) where
         cases false h g = g h
 
     module _ (proper : ProperDocument d) where
-      proper_target : (q : List ℕ) (t : Schema) → target d q ≡ Some t → IsProper t
+      pub proper_target : (q : List ℕ) (t : Schema) → target d q ≡ Some t → IsProper t
       proper_target q t h = cases (is_root_reference q) h
         where
           some_same : (s : Schema) → Some s ≡ Some t → IsProper s → IsProper t
@@ -211,14 +211,14 @@ pub record Owed (r : Relations) (d : Document) : Type 0 where
 
 module _ (r : Relations) (lawful : IsLawful r) (d : Document) (guarded : IsGuarded d) (proper : ProperDocument d) (owed : Owed r d) where
   -- a merge with false is false
-  abbrev Closed : (Schema → Schema → Outcome Schema) → Type 0
+  abbrev pub Closed : (Schema → Schema → Outcome Schema) → Type 0
   Closed join = (a b : Schema) → (is_false a || is_false b) ≡ true → IsFalse (or_false join a b)
 
   -- at a value
-  record Lawful (join less : Schema → Schema → Outcome Schema) (v : Value) : Type 0 where
-    merges : (a b : Schema) → IsProper a → IsProper b → Meets IsProper (admits r d v a && admits r d v b) (admits r d v) (join a b)
-    takes : (a b : Schema) → IsProper a → IsProper b → Meets IsProper (admits r d v a && not (admits r d v b)) (admits r d v) (less a b)
-    closes : Closed join
+  pub record Lawful (join less : Schema → Schema → Outcome Schema) (v : Value) : Type 0 where
+    pub merges : (a b : Schema) → IsProper a → IsProper b → Meets IsProper (admits r d v a && admits r d v b) (admits r d v) (join a b)
+    pub takes : (a b : Schema) → IsProper a → IsProper b → Meets IsProper (admits r d v a && not (admits r d v b)) (admits r d v) (less a b)
+    pub closes : Closed join
 
   closed : (join less : Schema → Schema → Outcome Schema) → Closed (λ a b. join_layer d join less a b)
   closed join less (boolean false) b h = refl
@@ -258,18 +258,29 @@ module _ (r : Relations) (lawful : IsLawful r) (d : Document) (guarded : IsGuard
     members_of (value.object ms) w = member_all ms w
     members_of _ w = tt
 
-    with_layer : (v : Value) → is_whole v ≡ true → (b : Schema) (ss : Same) → IsProper b → ProperSame ss → Meets IsProper (admits r d v b && admits r d v (only_same ss)) (admits r d v) (with_subschemas_layer d join' less' b ss)
+    pub with_layer : (v : Value) → is_whole v ≡ true → (b : Schema) (ss : Same) → IsProper b → ProperSame ss → Meets IsProper (admits r d v b && admits r d v (only_same ss)) (admits r d v) (with_subschemas_layer d join' less' b ss)
     with_layer v w b ss p q = meets-wanted IsProper (admits r d v b && same_says (admits r d v) ss) _ (admits r d v) (with_subschemas_layer d join' less' b ss) (ap (λ t. admits r d v b && t) (sym (only_form r d guarded v ss)))
         (with_subschemas_meet r lawful owed.numbers owed.texts d (proper_target r d guarded proper) join' less' v w (parts_of r d v) (coherent r d guarded v) (admits r d v) (judges v w) (all v w).takes
         (items_of v w) (members_of v w) (same_judge r d guarded owed.whole_alike v) (owed.apart v) (form r d guarded v) b ss p q)
 
-    layer : (v : Value) → is_whole v ≡ true → Lawful (λ a b. join_layer d join' less' a b) (λ a b. less_layer d join' less' a b) v
+    pub layer : (v : Value) → is_whole v ≡ true → Lawful (λ a b. join_layer d join' less' a b) (λ a b. less_layer d join' less' a b) v
     layer v w = record {
       merges = join_layer_meets r lawful owed.numbers owed.texts d (proper_target r d guarded proper) join' less' v w (parts_of r d v) (coherent r d guarded v) (admits r d v) (judges v w) (all v w).takes
           (items_of v w) (members_of v w) (same_judge r d guarded owed.whole_alike v) (owed.apart v) (form r d guarded v);
       takes = less_layer_meets r d join' less' v (parts_of r d v) (admits r d v) (all v w).merges (all v w).takes ((unfolds r d).booleans v) (owed.disjoint v) (form r d guarded v) (owed.one_name v join' less');
       closes = closed join' less';
     }
+
+    -- objects, by their references
+    pub references : (v : Value) → is_whole v ≡ true → (p : Plain) (ss : Same) (ls : Lists) (ns : Named) (q : Plain) (tt' : Same) (ms : Lists) (os : Named) → IsProper (object p ss ls ns) → IsProper (object q tt' ms os)
+        → (f g : Option (List ℕ)) → p.reference ≡ f → q.reference ≡ g
+        → Meets IsProper (admits r d v (object p ss ls ns) && admits r d v (object q tt' ms os)) (admits r d v) (by_references d join' less' p ss ls ns q tt' ms os f g)
+    references v w = by_references_meet r lawful owed.numbers owed.texts d (proper_target r d guarded proper) join' less' v w (parts_of r d v) (coherent r d guarded v) (admits r d v) (judges v w) (all v w).takes
+        (items_of v w) (members_of v w) (same_judge r d guarded owed.whole_alike v) (owed.apart v) (form r d guarded v)
+
+    -- several, from the left
+    pub gathers : (v : Value) → is_whole v ≡ true → (ss : Schemas) → ProperAll ss → Meets IsProper (list_all (admits r d v) (schema_list ss)) (admits r d v) (merge_schemas join' less' ss)
+    gathers v w ss p = merge_schemas_meet d join' less' (admits r d v) (all v w).merges (all v w).takes ((unfolds r d).booleans v) ss p
 
   merger : (n : ℕ) (v : Value) → is_whole v ≡ true → Lawful (below d n).join (below d n).less v
   merger zero v w = record { merges = λ a b p q. tt; takes = λ a b p q. tt; closes = λ a b h. tt }

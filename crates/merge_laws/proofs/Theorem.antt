@@ -23,7 +23,7 @@ strict : (s : Setting) → counts_as_absent s null ≡ false → s ≡ Strict
 strict Strict h = refl
 strict NullAbsent h = no_no (sym h)
 
-owed : (r : Relations) (d : Document) → IsGuarded d → Owed r d
+pub owed : (r : Relations) (d : Document) → IsGuarded d → Owed r d
 owed r d guarded = record {
   numbers = numbers_meet lcm_facts;
   texts = texts_sound;

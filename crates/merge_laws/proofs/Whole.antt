@@ -624,7 +624,7 @@ module _ (r : Relations) (lawful : IsLawful r) (numbers_meet : NumbersMeet) (tex
             let u = sym (form p ss ls ns) ∙ t in
             sym (ap (if_given R) e) ∙ and-2 (plain_agrees r p v) _ (and-1 (plain_agrees r p v && if_given R p.reference) _ (and-1 ((plain_agrees r p v && if_given R p.reference) && parts_agree r v parts ls ns) _ u))
 
-    by_references_meet : (p : Plain) (ss : Same) (ls : Lists) (ns : Named) (q : Plain) (tt' : Same) (ms : Lists) (os : Named) → IsProper (object p ss ls ns) → IsProper (object q tt' ms os)
+    pub by_references_meet : (p : Plain) (ss : Same) (ls : Lists) (ns : Named) (q : Plain) (tt' : Same) (ms : Lists) (os : Named) → IsProper (object p ss ls ns) → IsProper (object q tt' ms os)
         → (f g : Option (List ℕ)) → p.reference ≡ f → q.reference ≡ g
         → Meets IsProper (J (object p ss ls ns) && J (object q tt' ms os)) J (by_references d join less p ss ls ns q tt' ms os f g)
     by_references_meet p ss ls ns q tt' ms os hp hq None None ep eq = two_objects_meet p ss ls ns q tt' ms os hp hq ep eq

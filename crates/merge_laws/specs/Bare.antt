@@ -1,8 +1,8 @@
 -- Schemas whose merges end.
 use Rattle.std.specs.Prelude.{◌≡◌, ℕ, zero, suc, None}
 use Rattle.schema_defs.specs.Schema.{Schema, boolean, object, no_same, Lists, no_lists, lists, Named, no_named, named, MaybeSchema, no_schema, the_schema, Schemas, no_more, schema, Places, no_items, each_item, by_place, Properties, no_properties, property, Document}
-use Rattle.merge_defs.specs.Outcome.{Outcome, fault, never, answer}
-use Rattle.merge_defs.specs.Merge.{join}
+use Rattle.merge_defs.specs.Outcome.{Outcome, fault, depth}
+use Rattle.merge_defs.specs.Merge.{join, less, merge_all, with_subschemas}
 
 -- no reference, no subschemas and no names by pattern, and n steps to children at most; a list of items counts as a step
 abbrev mutual
@@ -47,3 +47,18 @@ HasNoFault _ = Unit {0}
 -- neither Depth nor what is unsupported comes of two of them where so many steps may be taken
 abbrev pub BareMergesEnd : Type 0
 BareMergesEnd = (d : Document) (n : ℕ) (a b : Schema) → IsBare a n → IsBare b n → HasNoFault (join d n a b)
+
+-- anything but Depth
+abbrev pub HasNoDepth : {A : Type 0} → Outcome A → Type 0
+HasNoDepth (fault (depth w)) = ⊥
+HasNoDepth _ = Unit {0}
+
+-- of each call: one of them or two merged, one without subschemas to merge it with, and one less another, which may be unsupported
+pub record BareCalls (d : Document) (n : ℕ) (a b : Schema) : Type 0 where
+  pub one : HasNoFault (merge_all d n (schema a no_more))
+  pub two : HasNoFault (merge_all d n (schema a (schema b no_more)))
+  pub alone : HasNoFault (with_subschemas d n a no_same)
+  pub less_other : HasNoDepth (less d n a b)
+
+abbrev pub BareCallsEnd : Type 0
+BareCallsEnd = (d : Document) (n : ℕ) (a b : Schema) → IsBare a n → IsBare b n → BareCalls d n a b

@@ -6,7 +6,7 @@ use Rattle.merge_defs.specs.Merge.{join, less, with_subschemas, merge_all}
 
 -- the first is Depth, or both are the same: answer, never with its notes, or unsupported
 abbrev pub Stays : {A : Type 0} → Outcome A → Outcome A → Type 0
-Stays (fault depth) o = Unit {0}
+Stays (fault (depth w)) o = Unit {0}
 Stays (fault (unsupported u)) o = o ≡ fault (unsupported u)
 Stays (never ns) o = o ≡ never ns
 Stays (answer ns a) o = o ≡ answer ns a

@@ -2,7 +2,7 @@
 
 ghost use Rattle.merge_laws.specs.Laws.{MergesAreMeets, NeverIsEmpty};
 ghost use Rattle.merge_laws.specs.MoreSteps.{MoreStepsStay};
-ghost use Rattle.merge_laws.specs.Bare.{BareMergesEnd};
+ghost use Rattle.merge_laws.specs.Bare.{BareMergesEnd, BareCallsEnd};
 
 /// Without a Narrowed note a value that both sides admit is admitted by the merge, and without a Widened note one that the merge admits by both;
 /// where the merge is never without a Narrowed note there is none. In what is left of a schema the other side counts as refused.
@@ -23,4 +23,9 @@ pub fn more_steps_stay()
 /// Schemas without references, subschemas and names by pattern merge without a fault where there are steps enough for their children.
 pub fn bare_merges_end()
     ensures { BareMergesEnd }
+{}
+
+/// So does each call on such schemas: one or two merged, one without subschemas beside it; and one less another is never Depth.
+pub fn bare_calls_end()
+    ensures { BareCallsEnd }
 {}
