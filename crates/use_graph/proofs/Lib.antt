@@ -1,0 +1,4 @@
+pub mod Ways
+pub mod Rounds
+pub mod Ending
+pub mod Tables
