@@ -1,0 +1,9 @@
+pub mod Items
+pub mod Uses
+pub mod Leads
+pub mod Types
+pub mod Trees
+pub mod Emission
+pub mod Ordered
+pub mod Held
+pub mod Examples
