@@ -1,0 +1,4 @@
+pub mod Fields
+pub mod Rules
+pub mod Shapes
+pub mod Inside

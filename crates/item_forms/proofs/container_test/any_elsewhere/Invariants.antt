@@ -1,0 +1,9 @@
+use Rattle.std.proofs.Common.{◌≡◌, map, drop, not}
+use Rattle.std.specs.List.{list_any}
+use Rattle.attr_parts.specs.Values.{tag_view}
+use Rattle.container_defs.specs.Forms.{stands_beside}
+use Rattle.container_readers.specs.Views.{variant_view}
+use Rattle.item_forms.proofs.container_test.any_elsewhere.Given as goal
+
+abbrev pub invariant-loop-variant : goal.invariant-loop-variant
+invariant-loop-variant l = list_any (λ v. not (stands_beside (tag_view l.tag) v.style)) (map variant_view l.variants) ≡ list_any (λ v. not (stands_beside (tag_view l.tag) v.style)) (map variant_view (drop l.variant-index l.variants))

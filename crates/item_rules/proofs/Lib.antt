@@ -1,0 +1,3 @@
+pub mod Filtered
+pub mod Placed
+pub mod Outside
