@@ -2,10 +2,9 @@
 //! output, and the status of the run as the process's.
 #![tactic(auto)]
 
-use regex_texts::RegexTexts;
 use std::env;
 use std::process::ExitCode;
-use typify_run::{StdSink, StdSource, run};
+use typify_run::{RegexTexts, StdSink, StdSource, run};
 
 const HELP: &str = "typify check DEPTH
 

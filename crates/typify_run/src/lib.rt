@@ -15,9 +15,11 @@ pub use item::root_item;
 pub use judge::{ReadBackFault, Reader, Verdict};
 pub use note::{Note, NoteKind, Way};
 pub use outcome::Outcome;
+pub use regex_texts::RegexTexts;
 pub use report::Report;
 pub use run_io::{
     Failed, MemorySink, MemorySource, PlainSink, PlainSource, Sink, SinkFault, Source, StdSink,
     StdSource, put,
 };
 pub use top::run;
+pub use whole_numbers::whole_numbers;
