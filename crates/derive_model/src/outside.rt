@@ -1,0 +1,59 @@
+//! The first item outside the forms.
+ghost use Rattle.std.specs.Prelude.{◌≡◌, map, option_map, IfOk};
+ghost use Rattle.syntax_trees.specs.Item.{item_view};
+ghost use Rattle.schema_tree.specs.Conversions.{conversions_view};
+ghost use Rattle.container_defs.specs.Forms.{names_of, leaves_forms};
+ghost use Rattle.container_readers.specs.Views.{container_view};
+ghost use Rattle.derive_model.specs.Items.{first_from};
+
+use container_readers::Container;
+use item_names::ItemNames;
+use item_rules::is_outside;
+use schema_tree::Conversions;
+use std::alloc::{AllocError, Global};
+
+fn leaves_forms(
+    alloc: Global,
+    names: &ItemNames<'_>,
+    conversions: &Conversions,
+    read: &Option<Container<'_>>,
+) -> Result<bool, AllocError>
+    ensures { IfOk result (λ r. r ≡ leaves_forms (names_of (map item_view names.now.items.now)) (conversions_view conversions.now) (option_map container_view read.now)) }
+{
+    match read {
+        Some(container) => {
+            let outside = is_outside(alloc, names, conversions, container)?;
+            Ok(outside)
+        }
+        None => Ok(true),
+    }
+}
+
+// A place as an error tells it, which has a u32: there is no memory for more items.
+fn told_place(place: usize) -> Result<u32, AllocError>
+    ensures { IfOk result (λ n. n ≡ place) }
+{
+    match u32::try_from(place) {
+        Ok(told) => Ok(told),
+        Err(_) => Err(AllocError),
+    }
+}
+
+/// The first item outside the forms, or the union that was not read.
+#[tactic(auto, using(crate::proofs::FirstOutside::next_place, crate::proofs::FirstOutside::this_place, crate::proofs::FirstOutside::no_place))]
+pub(crate) fn first_outside(
+    alloc: Global,
+    names: &ItemNames<'_>,
+    conversions: &Conversions,
+    read: &[Option<Container<'_>>],
+) -> Result<Option<u32>, AllocError>
+    ensures { IfOk result (λ o. o ≡ first_from (leaves_forms (names_of (map item_view names.now.items.now)) (conversions_view conversions.now)) 0 (map (option_map container_view) read.now)) }
+{
+    for place in 0..read.len() {
+        if leaves_forms(alloc, names, conversions, &read[place])? {
+            let told = told_place(place)?;
+            return Ok(Some(told));
+        }
+    }
+    Ok(None)
+}
