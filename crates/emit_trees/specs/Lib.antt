@@ -1,0 +1,3 @@
+pub mod CarriedView
+pub mod MannerView
+pub mod Parts
