@@ -98,7 +98,7 @@ names_differ = ((refl, tt), (tt, tt))
 pub chain_held : HoldsTable chain_leads chain tables.chain
 chain_held = record {
   targets = ((0, a_held), ((1, b_held), tt));
-  trees = ((4, to_b), tt);
+  trees = ((1, inr (b, refl, refl)), tt);
   led = chain_led;
   named = refl;
   distinct = names_differ;

@@ -8,12 +8,12 @@ use Rattle.syntax_trees.specs.Item.{FieldD, FieldsD, named_fields, unnamed_field
 use Rattle.syntax_printing.specs.Print.{print_ty}
 use Rattle.entry_defs.specs.Entry.{Target, State, required, optional, stated, Entry, boolean_entry, integer_entry, text_entry, native_entry, any_entry, unit_entry, option_entry, vec_entry, set_entry, map_entry, tuple_entry, array_entry, reference, item, Entries, no_entries, entry_then, entry_again, Shape, struct_shape, enum_shape, newtype_shape, Rest, no_rest, rest, rest_of, Contents, unit_contents, newtype_contents, tuple_contents, struct_contents, FieldEntry, VariantEntry, fields_of, variants_of}
 use Rattle.entry_defs.specs.Space.{Id, FieldAt, RestAt, ContentsAt, VariantAt, ShapeAt, EntryAt, item_at, Space, entry_at, Holds, HoldsEntries, HoldsShape, HoldsContents}
-use Rattle.entry_defs.specs.Table.{ItemEntry, Table, target_name, items_of}
+use Rattle.entry_defs.specs.Table.{ItemEntry, Table, target_name, item_name, items_of}
 use Rattle.emit_defs.specs.Setting.{setting_of, boxes, leads_of}
 use Rattle.emit_defs.specs.Boxing.{BoxesAreExact}
 use Rattle.emit_defs.specs.Models.{unboxed, Manner, manner, optional_manner, state_defaults, after_state, field_defaults, contents_defaults, shape_defaults, item_constraints, conversions_of_items}
 use Rattle.emit_defs.specs.Trees as trees
-use Rattle.emit_defs.specs.Trees.{Carried, flag, valued, serde, when, rename_metas, manner_metas, manner_ty, text_ty, map_ty, unnamed_field, unnamed_fields_of, entry_ty, field_tree, field_trees, rest_trees, contents_tree, variant_tree, variant_trees, shape_tree, item_metas, item_tree, item_trees}
+use Rattle.emit_defs.specs.Trees.{Carried, flag, valued, serde, when, rename_metas, manner_metas, manner_ty, text_ty, map_ty, lone, unnamed_field, unnamed_fields_of, entry_ty, field_tree, field_trees, rest_trees, contents_tree, variant_tree, variant_trees, shape_tree, item_metas, item_tree, item_trees}
 use Rattle.use_graph.specs.Laws.{ReachingIsDecided, LeadingIsDecided}
 use Rattle.space_defs.specs.Items.{ItemAt, items_at}
 use Rattle.space_defs.specs.Uses.{boxes_at}
@@ -21,7 +21,7 @@ use Rattle.space_defs.specs.Leads.{leads_at}
 use Rattle.space_defs.specs.Types.{none_boxed, ty_at}
 use Rattle.space_defs.specs.Trees.{field_defaults_at, contents_defaults_at, shape_defaults_at, item_constraints_at, optional_manner_at, manner_at, field_tree_at, field_trees_at, rest_trees_at, struct_trees_at, unnamed_trees_at, contents_tree_at, variant_trees_at, shape_tree_at, shape_metas_at, item_tree_at, item_trees_at}
 use Rattle.space_defs.specs.Ordered.{AreBelow}
-use Rattle.space_defs.specs.Held.{HoldsTable, SpacesEmitTables}
+use Rattle.space_defs.specs.Held.{Stands, HoldsTable, SpacesEmitTables}
 use Rattle.space_defs.proofs.Lists.{In}
 use Rattle.space_defs.proofs.Pairs.{id_or, FieldHeld, RestHeld, fields_held, rest_held, VariantHeld, variants_held}
 use Rattle.space_defs.proofs.Lookup.{Matches, matched, placed}
@@ -166,6 +166,13 @@ module _ (leads : Target → Id → Bool) (space : Space) (t : Table) (h : Holds
   bare_same : (e : Entry) (i : Id) → Holds leads space e i → ty_at space none_boxed i ≡ entry_ty name unboxed e
   bare_same e i k = type_same leads space t h none_boxed unboxed (none_agree leads space t h) (length space) e i (held_below leads space e i k) k
 
+  -- at the id of an item, the reference that leads to it
+  root_same : (e : Entry) (i : Id) → Stands leads space e i → ty_at space none_boxed i ≡ entry_ty name unboxed e
+  root_same e i (inl k) = bare_same e i k
+  root_same e i (inr p) =
+      let d = h.led p.0 i p.2 in
+      bare_same (item d.0.name d.0.shape) i d.2 ∙ ap lone (sym (ap item_name d.1)) ∙ ap (entry_ty name unboxed) (sym p.1)
+
   -- an item named m, at o
   module _ (o : Id) (m : List ℕ) (there : ShapeAt) (is_there : entry_at space o ≡ Some (item_at m there)) where
     agree : Agree leads space t h (boxed o) (boxes t m)
@@ -266,4 +273,4 @@ spaces_emit_tables reaching leading exact leads space t h e root k =
     ap₂ (λ a b. record { items = a; conversions = b; root = ty_at space none_boxed root })
     (items_same leads space t h reaching leading exact 0 (items_of t) (items_at space) (placed space) z)
     (ap₂ (λ a b. record { constraints = a; defaults = b }) (constraints_of_items leads space (items_of t) (items_at space) z) (defaults_of_items leads space (items_of t) (items_at space) z))
-    ∙ ap (λ y. record { items = item_trees (setting_of t) 0 (items_of t); conversions = conversions_of_items (items_of t); root = y }) (bare_same leads space t h reaching leading exact e root k)
+    ∙ ap (λ y. record { items = item_trees (setting_of t) 0 (items_of t); conversions = conversions_of_items (items_of t); root = y }) (root_same leads space t h reaching leading exact e root k)

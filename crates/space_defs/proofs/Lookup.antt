@@ -6,7 +6,7 @@ use Rattle.entry_defs.specs.Entry.{Target, Entry, boolean_entry, integer_entry, 
 use Rattle.entry_defs.specs.Space.{Id, FieldAt, RestAt, ContentsAt, VariantAt, ShapeAt, EntryAt, item_at, Space, entry_at, Holds, HoldsEntries, HoldsShape, HoldsFields, HoldsVariants, HoldsContents}
 use Rattle.entry_defs.specs.Table.{ItemEntry, TargetEntry, Table, item_named, items_in, items_in_entries, items_in_shape, items_in_fields, items_in_variants, items_in_contents, items_of}
 use Rattle.space_defs.specs.Items.{ItemAt, item_then, items_from, items_at}
-use Rattle.space_defs.specs.Held.{IsHeld, ItemIsHeld, HoldsTable}
+use Rattle.space_defs.specs.Held.{Stands, ItemIsHeld, HoldsTable}
 use Rattle.space_defs.proofs.Lists.{In, in_either, of_flat, of_map, in_map, all_in, Beside, zip_right, same_names, differs}
 
 -- ---- items inside what is held are held
@@ -86,11 +86,14 @@ module _ (leads : Target → Id → Bool) (space : Space) where
       let k = all_in (λ y. ItemIsHeld leads space y.led_to) r.of ts h r.among in
       inside_shape r.of.led_to.shape k.1.0 k.1.2 x r.inside
 
-  in_tree : (es : List Entry) → AllByRecursion (IsHeld leads space) es → (x : ItemEntry) → In x (flat_map items_in es) → ItemIsHeld leads space x
+  in_tree : (es : List Entry) → AllByRecursion (λ e. (i : Id) × Stands leads space e i) es → (x : ItemEntry) → In x (flat_map items_in es) → ItemIsHeld leads space x
   in_tree es h x a =
       let r = of_flat items_in x es a in
-      let k = all_in (IsHeld leads space) r.of es h r.among in
-      inside r.of k.0 k.1 x r.inside
+      let k = all_in (λ e. (i : Id) × Stands leads space e i) r.of es h r.among in
+      elim k.1 [
+        | inl b ↦ inside r.of k.0 b x r.inside
+        | inr b ↦ absurd (subst (λ e. In x (items_in e)) b.1 r.inside)
+      ]
 
 -- ---- the items of a space are those at its ids
 

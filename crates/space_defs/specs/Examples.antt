@@ -75,6 +75,8 @@ Emits space root t = emission_at space root ≡ emission t (root_of t)
 
 pub record EmittedAlike : Type 0 where
   pub of_chain : Emits chain 4 tables.chain
+  -- the root at the id of its item, as where the document is what a reference of it leads to
+  pub of_chain_item : Emits chain 1 tables.chain
   pub of_leading : Emits leading 2 tables.leading
   pub of_alike : Emits alike 0 tables.alike
   pub of_enums : Emits enums 0 tables.enums

@@ -6,4 +6,4 @@ use Rattle.space_defs.proofs.examples.emitted_alike.Goals as goal
 
 pub returns : goal.returns
 unfolding chars digits lib.Utf8.encode
-returns c = record { of_chain = refl; of_leading = refl; of_alike = refl; of_enums = refl; holds_chain = chain_held }
+returns c = record { of_chain = refl; of_chain_item = refl; of_leading = refl; of_alike = refl; of_enums = refl; holds_chain = chain_held }
