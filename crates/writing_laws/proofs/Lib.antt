@@ -1,0 +1,16 @@
+pub mod Taken
+pub mod Members
+pub mod Alike
+pub mod Back
+pub mod Lists
+pub mod Pairs
+pub mod Absent
+pub mod Outside
+pub mod Fields
+pub mod Structs
+pub mod Names
+pub mod Enums
+pub mod Level
+pub mod Again
+pub mod Sound
+pub mod Settled

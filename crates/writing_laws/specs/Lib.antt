@@ -1,0 +1,4 @@
+pub mod Kinds
+pub mod Tables
+pub mod Laws
+pub mod Examples
