@@ -1,0 +1,9 @@
+pub mod Seen
+pub mod Leaves
+pub mod At
+pub mod Choice
+pub mod Slots
+pub mod Entries
+pub mod SettingView
+pub mod SortedView
+pub mod Absences

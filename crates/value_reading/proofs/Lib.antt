@@ -1,0 +1,14 @@
+pub mod Order
+pub mod Sizes
+pub mod Work
+pub mod Prefixes
+pub mod Small
+pub mod Levels
+pub mod ListLevels
+pub mod Contents
+pub mod FieldSteps
+pub mod LoopSteps
+pub mod PairTurns
+pub mod Defaults
+pub mod Laws
+pub mod KeptApart

@@ -1,0 +1,8 @@
+//! JSON values read as types by the models of items, as one definition says (reading_defs).
+#![tactic(auto)]
+
+mod apart;
+mod reading;
+
+pub use reading::read;
+pub use value_parts::Outcome;
