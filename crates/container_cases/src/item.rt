@@ -2,21 +2,14 @@
 use crate::header::{named, params_of, parts_of, predicates_of, ty_of};
 use crate::meta::{attributes, is_mark, no_case};
 use rust_syntax::{Data, DeriveInput, Field, Fields, Generics, ParseFault, Variant};
-use rust_tokens::{Delimiter, Group, Ident, Span, TokenTree};
+use rust_tokens::{Delimiter, Group, Ident, Spacing, Span, TokenTree};
 use std::alloc::Global;
-
-fn starts_with_colon(trees: &[TokenTree]) -> bool {
-    match trees.first() {
-        Some(tree) => is_mark(tree, ':'),
-        None => false,
-    }
-}
 
 // The name before a colon, where one stands there, and what is behind it.
 fn label_of(trees: &[TokenTree]) -> (Option<&Ident>, &[TokenTree]) {
     match trees {
         [TokenTree::Ident(name), TokenTree::Punct(colon), rest @ ..] => {
-            if colon.ch == ':' && !starts_with_colon(rest) {
+            if colon.ch == ':' && matches!(colon.spacing, Spacing::Alone) {
                 (Some(name), rest)
             } else {
                 (None, trees)

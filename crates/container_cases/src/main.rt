@@ -5,6 +5,10 @@
 //! puts `v_` before a variant's name and `f_` before a field's, and `zed` answers `z`. The second is the item as Rust writes it.
 //! In types and parameters no comma stands outside of groups.
 //!
+//! A line whose first column begins with `module` has items in the second, with ` ;; ` between them, and types in a third. Behind
+//! `module` stand rules, as `S=text`, and a `d` for each stated default. Printed are `module` and whether each type is known, or
+//! what is told of the items, or the number of the first item that leaves the forms of the reader of values.
+//!
 //! A place is the number of the first and of the last token, from 1, where both brackets of a group count. A container is
 //! printed as its name, its style and its fields, or its variants with theirs. Where names differ from what is written, those
 //! that are written and read follow behind `=`, with the other names that are read behind `+`. A star marks the field of a
@@ -15,6 +19,7 @@
 mod header;
 mod item;
 mod meta;
+mod modules;
 mod numbers;
 mod reading;
 mod show;

@@ -3,9 +3,10 @@ ghost use Rattle.std.specs.Prelude.{◌≡◌, ◌++◌, codes, string_bytes, If
 
 use crate::item::item_of;
 use crate::meta::no_case;
+use crate::modules::module_answer;
 use crate::numbers::{Places, placed_trees};
 use crate::show::{show_container, show_place};
-use attr_parts::{Ctxt, Derive, RenameRule, Renamer};
+use attr_parts::{Ctxt, Derive, Diagnostic, RenameRule, Renamer};
 use container_readers::Container;
 use rust_syntax::{DeriveInput, ParseFault};
 use rust_tokens::{Ident, LexError, Span, TokenStream, lex};
@@ -14,7 +15,7 @@ use std::fmt::Write;
 
 /// Puts `v_` before a variant's name and `f_` before a field's, whatever the rule.
 #[derive(Clone, Copy)]
-struct Marks;
+pub(crate) struct Marks;
 
 /// Answers `z`, whatever the rule and the name.
 #[derive(Clone, Copy)]
@@ -76,7 +77,8 @@ impl Renamer for Zed {
     }
 }
 
-fn lexed(alloc: Global, text: &str) -> Result<TokenStream, ParseFault> {
+/// The tokens of the text.
+pub(crate) fn tokens_of(alloc: Global, text: &str) -> Result<TokenStream, ParseFault> {
     match lex(alloc, text, Span::call_site()) {
         Ok(stream) => Ok(stream),
         Err(LexError::Memory) => Err(ParseFault::Memory),
@@ -84,20 +86,24 @@ fn lexed(alloc: Global, text: &str) -> Result<TokenStream, ParseFault> {
     }
 }
 
-// What was collected, each with its place.
+/// Diagnostics, each with its place.
+pub(crate) fn show_told(out: &mut String, told: &[Diagnostic]) -> Result<(), AllocError> {
+    for diagnostic in told {
+        if !out.is_empty() {
+            out.push_str("; ")?;
+        }
+        write!(out, "{diagnostic}")?;
+        show_place(out, diagnostic.span)?;
+    }
+    Ok(())
+}
+
+// What was collected.
 fn told_of(alloc: Global, cx: Ctxt) -> Result<String, AllocError> {
     let mut out = String::new(alloc);
     match cx.check() {
         Ok(()) => out.push_str("ok")?,
-        Err(diagnostics) => {
-            for diagnostic in &diagnostics {
-                if !out.is_empty() {
-                    out.push_str("; ")?;
-                }
-                write!(out, "{diagnostic}")?;
-                show_place(&mut out, diagnostic.span)?;
-            }
-        }
+        Err(told) => show_told(&mut out, &told)?,
     }
     out.push_str(" | ")?;
     Ok(out)
@@ -145,7 +151,15 @@ fn derive_of(word: &str) -> Result<Derive, ParseFault> {
     }
 }
 
-/// What is told of the item, and the container that it is read as.
+/// The item that the text is, its tokens numbered from 1.
+pub(crate) fn placed_item(alloc: Global, text: &str) -> Result<DeriveInput, ParseFault> {
+    let tokens = tokens_of(alloc, text)?;
+    let mut places = Places { last: 0 };
+    let placed = placed_trees(alloc, tokens.trees(), 9, &mut places)?;
+    item_of(alloc, placed.trees())
+}
+
+/// What is told of the item, and the container that it is read as; or what comes of a module's items.
 pub(crate) fn answer(alloc: Global, line: &str) -> Result<String, ParseFault> {
     let Some((head, text)) = line.split_once(" | ") else {
         return Err(no_case());
@@ -153,10 +167,10 @@ pub(crate) fn answer(alloc: Global, line: &str) -> Result<String, ParseFault> {
     let Some((word, renamer)) = head.split_once(" ") else {
         return Err(no_case());
     };
+    if word == "module" {
+        return module_answer(alloc, renamer, text);
+    }
     let derive = derive_of(word)?;
-    let tokens = lexed(alloc, text)?;
-    let mut places = Places { last: 0 };
-    let placed = placed_trees(alloc, tokens.trees(), 9, &mut places)?;
-    let item = item_of(alloc, placed.trees())?;
+    let item = placed_item(alloc, text)?;
     read_by(alloc, &item, derive, renamer)
 }

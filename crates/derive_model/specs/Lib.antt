@@ -1,2 +1,5 @@
 pub mod Items
 pub mod ModuleView
+pub mod VerdictView
+pub mod Judging
+pub mod Laws

@@ -1,13 +1,18 @@
-//! The models of a module's items: read from their attributes, within the forms of the reader of JSON values.
+//! The models of a module's items, read from their attributes, within the forms of the reader of JSON values; values read, written and
+//! judged by them.
 #![tactic(auto)]
 
 mod asking;
 mod errors;
+mod judging;
+pub mod laws;
 mod making;
 mod models;
 mod module;
 mod outside;
 mod read;
+mod verdict;
 
-pub use errors::ModuleError;
+pub use errors::{JudgeError, ModuleError, ReadError};
 pub use module::Module;
+pub use verdict::Verdict;

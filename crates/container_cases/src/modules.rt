@@ -1,0 +1,93 @@
+//! Modules of items are made, and what came of it is printed.
+use crate::header::ty_of;
+use crate::meta::no_case;
+use crate::reading::{Marks, placed_item, show_told, tokens_of};
+use derive_model::{Module, ModuleError};
+use rust_syntax::{DeriveInput, ParseFault};
+use schema_tree::{Constraint, Conversions, Rule};
+use serde_json::Value;
+use std::alloc::{AllocError, Global};
+use std::fmt::Write;
+
+fn rule_of(alloc: Global, word: &str) -> Result<Rule, ParseFault> {
+    match word {
+        "text" => Ok(Rule::Text {
+            least: None,
+            most: None,
+            all: Vec::new(alloc),
+            any: Vec::new(alloc),
+        }),
+        "allow" => Ok(Rule::Allow(Vec::new(alloc))),
+        "deny" => Ok(Rule::Deny(Vec::new(alloc))),
+        _ => Err(no_case()),
+    }
+}
+
+fn conversions_of(alloc: Global, words: &str) -> Result<Conversions, ParseFault> {
+    let mut conversions = Conversions::new(alloc);
+    for word in words.split(' ') {
+        match word.split_once("=") {
+            Some((item, rule)) => conversions.constraints.push(Constraint {
+                item: String::from_str(alloc, item)?,
+                rule: rule_of(alloc, rule)?,
+            })?,
+            None => {
+                if word == "d" {
+                    conversions.defaults.push(Value::Null)?;
+                }
+            }
+        }
+    }
+    Ok(conversions)
+}
+
+fn items_of(alloc: Global, text: &str) -> Result<Vec<DeriveInput>, ParseFault> {
+    let mut items = Vec::new(alloc);
+    for part in text.split(" ;; ") {
+        items.push(placed_item(alloc, part)?)?;
+    }
+    Ok(items)
+}
+
+// Whether each of the types is known.
+fn known_types(alloc: Global, module: &Module<'_>, types: &str) -> Result<String, ParseFault> {
+    let mut out = String::from_str(alloc, "module")?;
+    for text in types.split(" ;; ") {
+        let tokens = tokens_of(alloc, text)?;
+        let ty = ty_of(alloc, tokens.trees())?;
+        if module.knows(&ty) {
+            out.push_str(" known")?;
+        } else {
+            out.push_str(" unknown")?;
+        }
+    }
+    Ok(out)
+}
+
+fn show_error(alloc: Global, error: ModuleError) -> Result<String, AllocError> {
+    let mut out = String::new(alloc);
+    match error {
+        ModuleError::Memory => Err(AllocError),
+        ModuleError::Diagnostics(told) => {
+            show_told(&mut out, &told)?;
+            Ok(out)
+        }
+        ModuleError::Form { item } => {
+            write!(out, "form {item}")?;
+            Ok(out)
+        }
+    }
+}
+
+/// What comes of the items: a module, in which types are known or not; or what is told of them; or the first that leaves the forms.
+pub(crate) fn module_answer(alloc: Global, words: &str, text: &str) -> Result<String, ParseFault> {
+    let Some((items, types)) = text.split_once(" | ") else {
+        return Err(no_case());
+    };
+    let items = items_of(alloc, items)?;
+    let conversions = conversions_of(alloc, words)?;
+    match Module::new(alloc, &items, &conversions, &Marks) {
+        Ok(module) => known_types(alloc, &module, types),
+        Err(error) => Ok(show_error(alloc, error)?),
+    }
+}

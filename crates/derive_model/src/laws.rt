@@ -1,0 +1,7 @@
+//! What holds of all modules: each law is the contract of a function that does nothing.
+ghost use Rattle.derive_model.specs.Laws.{TablesWithoutDefaultsAreSound};
+
+/// A module without stated defaults meets what reading asks of them.
+pub fn tables_without_defaults_are_sound()
+    ensures { TablesWithoutDefaultsAreSound }
+{}
