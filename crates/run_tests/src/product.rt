@@ -1,10 +1,9 @@
-//! The longest input, and the judge alone.
+//! The longest input.
 use run_io::{PlainSink, PlainSource};
-use schema_tree::{PlainTexts, read_form};
-use serde_json::Value;
+use schema_tree::PlainTexts;
 use std::alloc::{AllocError, Global};
 use std::test::Fail;
-use typify_run::{Reader, root_item, run};
+use typify_run::run;
 
 const SCHEMA: &str =
     r#"{"type":"object","properties":{"id":{"type":"integer"},"name":{"type":"string"}},"required":["id","name"],"additionalProperties":false}"#;
@@ -52,30 +51,5 @@ fn an_input_has_a_limit(rt: HostRuntime) -> Result<(), Fail> {
         let got = plain_run(rt.alloc(), "check 8", &text)?;
         assert!(rt; got.starts_with(want));
     }
-    Ok(())
-}
-
-#[test]
-fn an_item_without_its_attribute_is_open(rt: HostRuntime) -> Result<(), Fail> {
-    let alloc = rt.alloc();
-    let (Ok(schema), Ok(value)) = (
-        Value::from_str(alloc, SCHEMA),
-        Value::from_str(alloc, r#"{"id":1,"name":"a","x":0}"#),
-    ) else {
-        return Err(Fail::new("the test has no item"));
-    };
-    let Ok(Some(fields)) = read_form(alloc, &schema) else {
-        return Err(Fail::new("the test has no item"));
-    };
-    let mut item = root_item(alloc, &fields)?;
-    let Ok(closed) = Reader::read_back(alloc, &item) else {
-        return Err(Fail::new("the test has no item"));
-    };
-    assert!(rt; closed.judge(alloc, &value)?.taken().is_none());
-    item.attrs = Vec::new(alloc);
-    let Ok(open) = Reader::read_back(alloc, &item) else {
-        return Err(Fail::new("the test has no item"));
-    };
-    assert!(rt; open.judge(alloc, &value)?.taken().is_some());
     Ok(())
 }

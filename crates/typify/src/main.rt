@@ -7,14 +7,16 @@ use std::process::ExitCode;
 use typify_run::{RegexTexts, StdSink, StdSource, run};
 
 const HELP: &str = "typify check DEPTH
+typify items DEPTH
 
 Reads one JSON object with exactly the members `schema`, a JSON Schema, and `values`, a list, from standard input
-(at most 16,777,216 bytes), and prints the number of items that the schema compiles to, a line for each note, and a
-line for each value: taken, with the value written back, or refused, with the place. DEPTH is from 1 to 512.
+(at most 16,777,216 bytes). `check` prints the number of items that the schema compiles to, a line for each note, and a
+line for each value: taken, with the value written back, or refused, with the place. `items` passes over the values and
+prints the items, each on a line, with their serde attributes. DEPTH is from 1 to 512.
 
 A note, `note WAY KIND PATH`, says that the items don't take exactly the values that the schema admits, and where: WAY
 is Widened where they take more, Narrowed where they take fewer; KIND says why, PATH is the place in the schema. Where
-no note is printed they take exactly those, among values whose numbers are i64.
+`check` prints no note they take exactly those, among values whose numbers are i64.
 
 Status: 0 a page was printed, 1 one line names a fault, 2 other words, 3 the input is too long or isn't that object,
 4 reading failed, 5 writing failed, 6 memory ran out.";

@@ -14,7 +14,7 @@ use Rattle.schema_tree.specs.Form.{form_of}
 use Rattle.schema_tree.specs.Numbers.{are_i64, holds_i64_alone, wide_place, IsWideAt, HasWideNumber}
 use Rattle.schema_tree.proofs.WidePlaces.{wide_exact}
 use Rattle.typify_run.specs.Examine.{IsCause, IsRefusal, is_examined}
-use Rattle.typify_run.proofs.Reported.{both_true}
+use Rattle.typify_run.proofs.Judged.{both_true}
 
 -- ---- refusals of the parts are refusals
 

@@ -6,29 +6,30 @@ use Rattle.syntax_trees.specs.Item.{FieldD, named_fields, struct_body, ItemD}
 use Rattle.attr_defs.specs.Texts.{lexed}
 use Rattle.container_defs.specs.Laws.{PlainField, plain_field, plain_model, closing, plain_struct, plain_container}
 use Rattle.container_defs.specs.Model.{diagnostics_of}
-use Rattle.container_defs.specs.Reader.{item_models}
+use Rattle.container_defs.specs.Reader.{item_model, item_models}
 use Rattle.container_defs.proofs.Plain.{nothing_is_told, fields_are_read}
 use Rattle.json_value.specs.Value.{Value, IsSmall}
 use Rattle.schema_defs.specs.Texts.{Relations}
 use Rattle.schema_defs.specs.Admits.{admits}
 use Rattle.model_defs.specs.Types.{type_of, item_type, word_type, plain_path}
 use Rattle.model_defs.specs.Model.{struct_style, FieldModel, struct_model, ContainerModel, ConversionsD}
-use Rattle.model_defs.specs.Flat.{is_simple, flat_field, flat_model, names_differ, all_simple, takes_flat, flat_stops, NamesApart}
+use Rattle.model_defs.specs.Flat.{is_simple, flat_field, flat_model, names_differ, all_simple, takes_flat, NamesApart}
 use Rattle.model_defs.specs.Reads.{reads}
-use Rattle.model_defs.specs.Refusals.{refused_at}
 use Rattle.model_defs.proofs.Flat.{flat_reading}
-use Rattle.model_defs.proofs.FlatRefusals.{flat_refusals}
 use Rattle.model_defs.proofs.Rising.{small_names_apart}
 use Rattle.schema_tree.specs.Form.{FlatKind, text_kind, boolean_kind, integer_kind}
 use Rattle.typify_run.specs.Flat.{Fields, AreKeptNames, flat_document, kind_type, flats}
 use Rattle.typify_run.specs.Item.{name_of, kind_ty, field_of, root_item, root_ty}
 use Rattle.typify_run.specs.Headline.{Deriving, IsClean}
-use Rattle.typify_run.specs.Reader.{read_back_by}
 use Rattle.typify_run.proofs.KeptNames.{plain_fields, plain_of, are_plain}
 use Rattle.typify_run.proofs.Admission.{flat_admitted}
 use Rattle.typify_run.proofs.Agreement.{flat_agrees}
 
 -- ---- by serde's reader
+
+-- what serde's reader, so asked, and the reader of values make of an item
+abbrev pub read_back_by : Deriving → ItemD → Option ContainerModel
+read_back_by how i = item_model lexed how.variant_name how.field_name how.private i how.derive
 
 -- the item is a struct of plain fields
 as_plain : (fs : Fields) → root_item fs ≡ plain_struct (closing true site site site) (name_of (codes "Root")) (plain_fields fs) site
@@ -62,10 +63,11 @@ root_read_back how fs kept =
 abbrev pub read_of : Deriving → List ItemD → List ContainerModel
 read_of how is = item_models lexed how.variant_name how.field_name how.private how.derive is
 
-root_alone : (how : Deriving) (fs : Fields) → AreKeptNames fs → read_of how (root_item fs ∷ []) ≡ flat_model (codes "Root") true (flats fs) ∷ []
+-- so are all containers
+pub root_alone : (how : Deriving) (fs : Fields) → AreKeptNames fs → read_of how (root_item fs ∷ []) ≡ flat_model (codes "Root") true (flats fs) ∷ []
 root_alone how fs kept = ap (λ (o : Option ContainerModel). filter_map (λ (m : Option ContainerModel). m) (o ∷ [])) (root_read_back how fs kept)
 
-root_type : type_of root_ty ≡ item_type (codes "Root")
+pub root_type : type_of root_ty ≡ item_type (codes "Root")
 unfolding word_type
 root_type = refl
 
@@ -74,7 +76,7 @@ simple_kind text_kind = refl
 simple_kind boolean_kind = refl
 simple_kind integer_kind = refl
 
-simple : (fs : Fields) → all_simple (flats fs) ≡ true
+pub simple : (fs : Fields) → all_simple (flats fs) ≡ true
 simple [] = refl
 simple (f ∷ fs) = λ i. simple_kind f.1 i && simple fs i
 
@@ -83,12 +85,6 @@ pub root_reads : (texts : Relations) (conversions : ConversionsD) (how : Derivin
     → reads (read_of how (root_item fs ∷ [])) conversions texts (type_of root_ty) v ≡ takes_flat true (flats fs) v
 root_reads texts conversions how fs kept d v a =
     (λ i. reads (root_alone how fs kept i) conversions texts (root_type i) v) ∙ flat_reading (codes "Root") true (flats fs) conversions texts d (simple fs) v a
-
--- and refuse where it does
-pub root_refuses : (texts : Relations) (conversions : ConversionsD) (how : Deriving) (fs : Fields) → AreKeptNames fs → names_differ (flats fs) ≡ true → (v : Value) → NamesApart v → takes_flat true (flats fs) v ≡ false
-    → refused_at (read_of how (root_item fs ∷ [])) conversions texts (type_of root_ty) v ≡ flat_stops true (flats fs) v
-root_refuses texts conversions how fs kept d v a h =
-    (λ i. refused_at (root_alone how fs kept i) conversions texts (root_type i) v) ∙ flat_refusals (codes "Root") true (flats fs) conversions texts d (simple fs) v a h
 
 -- exactly the small values that the document admits
 pub root_exact : (texts : Relations) (conversions : ConversionsD) (how : Deriving) (fs : Fields) → AreKeptNames fs → names_differ (flats fs) ≡ true → (v : Value) → IsSmall v

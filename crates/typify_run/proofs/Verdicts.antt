@@ -3,7 +3,7 @@ use Rattle.std.proofs.Common.{◌≡◌, ℕ, zero, suc, ◌+◌, ◌<◌, List,
 use Rattle.std.proofs.lemmas.List.{take_more, map-append, length-map, length-take-le}
 use Rattle.serde_json.specs.Data.{Data}
 use Rattle.schema_defs.specs.Location.{Location}
-use Rattle.typify_run.specs.Verdict.{VerdictD, taken, refused, written_of, refused_at}
+use Rattle.derive_model.specs.VerdictView.{VerdictD, taken, refused, written_of, refused_at}
 use Rattle.typify_run.specs.Page.{verdict_line, verdict_lines, IsPrintable, ArePrintable}
 
 pub taken_is : (v : VerdictD) (d : Data) → Some d ≡ written_of v → v ≡ taken d

@@ -22,8 +22,9 @@ use Rattle.model_defs.specs.Types.{TypeModel, type_of}
 use Rattle.model_defs.specs.Model.{ContainerModel}
 use Rattle.model_defs.specs.Reads.{reads}
 use Rattle.model_defs.specs.Refusals.{refused_at}
+use Rattle.model_defs.specs.Settled.{settled}
 use Rattle.schema_tree.specs.Conversions.{conversions_view}
-use Rattle.typify_run.specs.Verdict.{VerdictD, taken, refused, verdict_view}
+use Rattle.derive_model.specs.VerdictView.{VerdictD, taken, refused, verdict_view}
 use Rattle.typify_run.specs.declared.note.Way.{Way}
 use Rattle.typify_run.specs.declared.note.Way.TheVariants.{Narrowed, Widened}
 use Rattle.typify_run.specs.declared.note.Note.{Note}
@@ -58,6 +59,10 @@ report_reads texts r how v = reads (models_of how r) (conversions_view r.convers
 abbrev pub report_refuses : Relations → Report → Deriving → Value → Location
 report_refuses texts r how v = refused_at (models_of how r) (conversions_view r.conversions) texts (root_of r) v
 
+-- what a value that they read becomes
+abbrev pub report_settles : Relations → Report → Deriving → Value → Value
+report_settles texts r how v = settled (models_of how r) (conversions_view r.conversions) texts (root_of r) v
+
 abbrev pub document_admits : Relations → Document → Value → Bool
 document_admits texts d v = admits texts d v d.root
 
@@ -70,17 +75,28 @@ IsNarrowed w = w ≡ Narrowed
 abbrev pub IsWidened : Way → Type 0
 IsWidened w = w ≡ Widened
 
--- taken exactly where it is read, and then written as it is; else refused where reading stops
-abbrev pub IsJudged : (Value → Bool) → (Value → Location) → Data → VerdictD → Type 0
-IsJudged takes stops d (taken w) = (takes (value_of d) ≡ true) × (w ≡ d)
-IsJudged takes stops d (refused l) = (takes (value_of d) ≡ false) × (l ≡ stops (value_of d))
+-- taken exactly where it is read, and then written as it settles; else refused where reading stops
+abbrev pub IsJudged : (Value → Bool) → (Value → Value) → (Value → Location) → Data → VerdictD → Type 0
+IsJudged takes settles stops d (taken w) = (takes (value_of d) ≡ true) × (value_of w ≡ settles (value_of d))
+IsJudged takes settles stops d (refused l) = (takes (value_of d) ≡ false) × (l ≡ stops (value_of d))
 
 -- a verdict for each value
-abbrev pub AreJudged : (Value → Bool) → (Value → Location) → List Data → List VerdictD → Type 0
-AreJudged takes stops [] [] = ⊤
-AreJudged takes stops (d ∷ ds) (v ∷ vs) = IsJudged takes stops d v × AreJudged takes stops ds vs
-AreJudged takes stops [] (v ∷ vs) = ⊥
-AreJudged takes stops (d ∷ ds) [] = ⊥
+abbrev pub AreJudged : (Value → Bool) → (Value → Value) → (Value → Location) → List Data → List VerdictD → Type 0
+AreJudged takes settles stops [] [] = ⊤
+AreJudged takes settles stops (d ∷ ds) (v ∷ vs) = IsJudged takes settles stops d v × AreJudged takes settles stops ds vs
+AreJudged takes settles stops [] (v ∷ vs) = ⊥
+AreJudged takes settles stops (d ∷ ds) [] = ⊥
+
+-- what is taken is written as it was
+abbrev pub IsKept : Data → VerdictD → Type 0
+IsKept d (taken w) = w ≡ d
+IsKept d (refused l) = ⊤
+
+abbrev pub AreKept : List Data → List VerdictD → Type 0
+AreKept [] [] = ⊤
+AreKept (d ∷ ds) (v ∷ vs) = IsKept d v × AreKept ds vs
+AreKept [] (v ∷ vs) = ⊥
+AreKept (d ∷ ds) [] = ⊥
 
 pub record IsReportOf (texts : Relations) (schema : Value) (values : List Data) (r : Report) : Type 0 where
   -- the schema is a document
@@ -94,4 +110,6 @@ pub record IsReportOf (texts : Relations) (schema : Value) (values : List Data) 
   pub not_narrower : HasNone IsNarrowed r.notes.items → (how : Deriving) (v : Value) → IsSmall v → document_admits texts document v ≡ true → report_reads texts r how v ≡ true
   pub not_wider : HasNone IsWidened r.notes.items → (how : Deriving) (v : Value) → IsSmall v → report_reads texts r how v ≡ true → document_admits texts document v ≡ true
   -- the verdicts are those of the containers
-  pub verdicts : (how : Deriving) → AreJudged (report_reads texts r how) (report_refuses texts r how) values (map verdict_view r.verdicts.items)
+  pub verdicts : (how : Deriving) → AreJudged (report_reads texts r how) (report_settles texts r how) (report_refuses texts r how) values (map verdict_view r.verdicts.items)
+  -- no schema of the one form states a default or leaves a member out, so what is taken stays as it is
+  pub kept : AreKept values (map verdict_view r.verdicts.items)

@@ -2,11 +2,8 @@ pub mod Flat
 pub mod Item
 pub mod Words
 pub mod Note
-pub mod Verdict
+pub mod Verdicts
 pub mod Page
-pub mod Place
-pub mod Reader
 pub mod Headline
 pub mod Examine
 pub mod Outcome
-pub mod Plain

@@ -1,13 +1,19 @@
--- The page of a report: the number of items, the notes, one verdict a value, each on a line, and `end`.
+-- The pages of a report: the number of items, the notes, one verdict a value, each on a line, and `end`; or the text of each item on a line, and `end`.
 use Rattle.std.specs.Prelude.{◌≡◌, ℕ, suc, List, [], ◌∷◌, ◌++◌, map, length, false, codes, decimal, ⊤}
 use Rattle.std.specs.List.{flat_map}
 use Rattle.json.specs.Print.{quoted}
+use Rattle.syntax_trees.specs.Item.{item_view}
+use Rattle.syntax_trees.specs.declared.item.DeriveInput.{DeriveInput}
+use Rattle.derive_receiver.specs.Replaced.{replaced}
+use Rattle.item_texts.specs.Text.{item_text_of}
 use Rattle.serde_json.specs.Written.{compact_text, has_float}
 use Rattle.schema_defs.specs.Location.{Location, location_text}
 use Rattle.typify_run.specs.Note.{way_text, kind_text}
-use Rattle.typify_run.specs.Verdict.{VerdictD, taken, refused, verdict_view}
+use Rattle.derive_model.specs.VerdictView.{VerdictD, taken, refused, verdict_view}
 use Rattle.typify_run.specs.declared.note.Note.{Note}
 use Rattle.typify_run.specs.declared.report.Report.{Report}
+use Rattle.typify_run.specs.declared.words.Command.{Command}
+use Rattle.typify_run.specs.declared.words.Command.TheVariants.{Check, Items}
 
 -- a line feed
 abbrev pub end_line : List ℕ
@@ -41,6 +47,20 @@ items_line n = codes "items " ++ decimal n ++ end_line
 
 abbrev pub page : Report → List ℕ
 page r = items_line (length r.items.items) ++ notes_text r.notes.items ++ verdict_lines 0 (map verdict_view r.verdicts.items) ++ codes "end\n"
+
+-- an item as serde's derives read it, each `Self` replaced by the item's own type
+abbrev pub item_line : DeriveInput → List ℕ
+item_line i = item_text_of (replaced (item_view i)) ++ end_line
+
+abbrev pub item_lines : List DeriveInput → List ℕ
+item_lines is = flat_map item_line is
+
+abbrev pub items_page : Report → List ℕ
+items_page r = item_lines r.items.items ++ codes "end\n"
+
+abbrev pub page_of : Command → Report → List ℕ
+page_of Check r = page r
+page_of Items r = items_page r
 
 -- what is written back holds whole numbers alone
 abbrev pub IsPrintable : VerdictD → Type 0

@@ -3,16 +3,16 @@
 
 mod examination;
 mod item;
-mod judge;
+mod judging;
 mod note;
 mod outcome;
 mod report;
 mod top;
 mod words;
 
+pub use derive_model::Verdict;
 pub use examination::examine;
 pub use item::root_item;
-pub use judge::{ReadBackFault, Reader, Verdict};
 pub use note::{Note, NoteKind, Way};
 pub use outcome::Outcome;
 pub use regex_texts::RegexTexts;

@@ -2,11 +2,13 @@
 ghost use Rattle.std.specs.Prelude.{◌≡◌, ◌++◌, OnOk, IfOk, string_bytes, map, vec_len, length, false, decimal};
 ghost use Rattle.serde_json.specs.Written.{has_float};
 ghost use Rattle.serde_json.specs.View.{view};
-ghost use Rattle.typify_run.specs.Verdict.{verdict_view, taken, refused};
-ghost use Rattle.typify_run.specs.Page.{page as page_of, note_line as note_line_of, notes_text, value_line as value_line_of, verdict_line as verdict_line_of, verdict_lines, IsPrintable, ArePrintable};
+ghost use Rattle.derive_model.specs.VerdictView.{verdict_view, taken, refused};
+ghost use Rattle.typify_run.specs.Page.{page, page_of, items_page, item_line as item_line_of, item_lines, note_line as note_line_of, notes_text, value_line as value_line_of, verdict_line as verdict_line_of, verdict_lines, IsPrintable, ArePrintable};
 
-use crate::judge::Verdict;
 use crate::note::Note;
+use crate::words::Command;
+use derive_model::Verdict;
+use item_texts::replaced_text;
 use schema_tree::{Conversions, Location, json_string};
 use serde_json::Value;
 use std::alloc::{AllocError, Global};
@@ -96,16 +98,55 @@ fn push_verdicts(out: &mut String, alloc: Global, verdicts: &[Verdict]) -> Resul
     Ok(())
 }
 
+// The item's text and a line feed.
+fn item_line(alloc: Global, item: &DeriveInput) -> Result<String, AllocError>
+    ensures { IfOk result (λ s. string_bytes s ≡ item_line_of item.now) }
+{
+    let mut line = replaced_text(alloc, item)?;
+    line.push_str("\n")?;
+    Ok(line)
+}
+
+fn push_items(out: &mut String, alloc: Global, items: &[DeriveInput]) -> Result<(), AllocError>
+    ensures { OnOk result (string_bytes out.new ≡ string_bytes out.old ++ item_lines items.now) }
+{
+    for item in items {
+        out.push_str(&item_line(alloc, item)?)?;
+    }
+    Ok(())
+}
+
 impl Report {
-    /// The page: the number of items, a line for each note and each verdict, and `end`.
-    pub(crate) fn page(&self, alloc: Global) -> Result<String, AllocError>
+    /// The page that the command asks for.
+    pub(crate) fn page_of(&self, alloc: Global, command: Command) -> Result<String, AllocError>
         requires { ArePrintable (map verdict_view self.now.verdicts.items) }
-        ensures { IfOk result (λ s. string_bytes s ≡ page_of self.now) }
+        ensures { IfOk result (λ s. string_bytes s ≡ page_of command self.now) }
+    {
+        match command {
+            Command::Check => self.page(alloc),
+            Command::Items => self.items_page(alloc),
+        }
+    }
+
+    // The number of items, a line for each note and each verdict, and `end`.
+    fn page(&self, alloc: Global) -> Result<String, AllocError>
+        requires { ArePrintable (map verdict_view self.now.verdicts.items) }
+        ensures { IfOk result (λ s. string_bytes s ≡ page self.now) }
     {
         let count = self.items.len();
         let mut page = format!(in alloc; "items {count}\n")?;
         push_notes(&mut page, alloc, &self.notes)?;
         push_verdicts(&mut page, alloc, &self.verdicts)?;
+        page.push_str("end\n")?;
+        Ok(page)
+    }
+
+    // The text of each item, a line each, and `end`.
+    fn items_page(&self, alloc: Global) -> Result<String, AllocError>
+        ensures { IfOk result (λ s. string_bytes s ≡ items_page self.now) }
+    {
+        let mut page = String::new(alloc);
+        push_items(&mut page, alloc, &self.items)?;
         page.push_str("end\n")?;
         Ok(page)
     }

@@ -4,16 +4,16 @@ ghost use Rattle.serde_json.specs.View.{view};
 ghost use Rattle.run_io.specs.Bytes.{Rises};
 ghost use Rattle.schema_defs.specs.Texts.{Relations};
 ghost use Rattle.schema_tree.specs.Fault.{FaultD, fault_view};
-ghost use Rattle.run_input.specs.Input.{Parts, IsInput, IsNoInput, data_of, limit};
-ghost use Rattle.typify_run.specs.Outcome.{Answers, Ends, EndsReading, IsBare, IsCarried, IsCauseIn, IsCaused, IsCutShort, IsFaultPrinted, IsMemorySpent, IsPrinting, IsReportPrinted, IsReported, IsWritingCut, is_built};
+ghost use Rattle.run_input.specs.Input.{Parts, IsInput, IsNoInput, limit};
+ghost use Rattle.typify_run.specs.Outcome.{Answers, Ends, EndsReading, IsBare, IsCarried, IsCauseIn, IsCaused, IsCutShort, IsFaultPrinted, IsMemorySpent, IsPrinting, IsReportPrinted, IsReported, IsWritingCut, examined as examined_of, is_built, values_of};
 ghost use Rattle.typify_run.specs.Page.{ArePrintable};
-ghost use Rattle.typify_run.specs.Verdict.{verdict_view};
-ghost use Rattle.typify_run.specs.Words.{check_depth};
+ghost use Rattle.derive_model.specs.VerdictView.{verdict_view};
+ghost use Rattle.typify_run.specs.Words.{command_of, depth_said};
 
 use crate::examination::examine;
 use crate::outcome::Outcome;
 use crate::report::Report;
-use crate::words::depth_of_words;
+use crate::words::{Command, command_of_words, depth_of_words};
 use run_input::{InputError, LIMIT, input_parts, input_value};
 use run_io::{InputFault, Sink, SinkFault, Source, put, read_input};
 use schema_tree::{Fault, Texts};
@@ -21,13 +21,13 @@ use serde_json::Value;
 use std::alloc::Global;
 
 // The report printed.
-fn print_report<K: Sink>(alloc: Global, report: Report, sink: &mut K) -> Outcome
+fn print_report<K: Sink>(alloc: Global, command: Command, report: Report, sink: &mut K) -> Outcome
     requires { ArePrintable (map verdict_view report.verdicts.items) }
-    ensures answer { (texts : Relations) (parts : Parts) → IsReported texts parts report → Answers texts parts (K.written sink.old) (K.written sink.new) result.status result.report result.fault }
+    ensures answer { (texts : Relations) (parts : Parts) → IsReported command texts parts report → Answers command texts parts (K.written sink.old) (K.written sink.new) result.status result.report result.fault }
     ensures write_fault { result.status ≡ 5 → Rises (K.faults sink.old) (K.faults sink.new) }
     ensures kept { K.faults sink.old ≤ K.faults sink.new }
 {
-    let Ok(page) = report.page(alloc) else {
+    let Ok(page) = report.page_of(alloc, command) else {
         return Outcome::bare(6);
     };
     match put(sink, page.as_bytes()) {
@@ -47,7 +47,7 @@ fn print_report<K: Sink>(alloc: Global, report: Report, sink: &mut K) -> Outcome
 
 // The line of a fault printed.
 fn print_fault<K: Sink>(alloc: Global, fault: Fault, sink: &mut K) -> Outcome
-    ensures answer { (texts : Relations) (parts : Parts) → IsCaused parts fault → Answers texts parts (K.written sink.old) (K.written sink.new) result.status result.report result.fault }
+    ensures answer { (command : Command) (texts : Relations) (parts : Parts) → IsCaused command parts fault → Answers command texts parts (K.written sink.old) (K.written sink.new) result.status result.report result.fault }
     ensures write_fault { result.status ≡ 5 → Rises (K.faults sink.old) (K.faults sink.new) }
     ensures kept { K.faults sink.old ≤ K.faults sink.new }
 {
@@ -69,9 +69,20 @@ fn print_fault<K: Sink>(alloc: Global, fault: Fault, sink: &mut K) -> Outcome
     }
 }
 
+// The values that are examined: where items are asked for, none.
+fn examined<'a>(command: Command, values: &'a [Value]) -> &'a [Value]
+    ensures { map view result.now ≡ examined_of command (map view values.now) }
+{
+    match command {
+        Command::Check => values,
+        Command::Items => &[],
+    }
+}
+
 // The schema and the values examined, and what comes of it printed.
 fn run_parts<K: Sink, T: Texts>(
     alloc: Global,
+    command: Command,
     depth: u32,
     schema: &Value,
     values: &[Value],
@@ -79,14 +90,14 @@ fn run_parts<K: Sink, T: Texts>(
     texts: &mut T,
 ) -> Outcome
     requires { 1 ≤ depth }
-    ensures answer { (parts : Parts) → parts.schema ≡ view schema.now → data_of parts.values ≡ map view values.now → Answers (T.relations texts.old) parts (K.written sink.old) (K.written sink.new) result.status result.report result.fault }
+    ensures answer { (parts : Parts) → parts.schema ≡ view schema.now → values_of command parts ≡ map view values.now → Answers command (T.relations texts.old) parts (K.written sink.old) (K.written sink.new) result.status result.report result.fault }
     ensures write_fault { result.status ≡ 5 → Rises (K.faults sink.old) (K.faults sink.new) }
     ensures kept { K.faults sink.old ≤ K.faults sink.new }
     ensures keeps { T.relations texts.new ≡ T.relations texts.old }
     ensures counts { T.faults texts.old ≤ T.faults texts.new }
 {
     match examine(alloc, schema, depth, values, texts) {
-        Ok(report) => print_report(alloc, report, sink),
+        Ok(report) => print_report(alloc, command, report, sink),
         Err(fault) => {
             if fault.is_memory() {
                 Outcome::bare(6)
@@ -100,6 +111,7 @@ fn run_parts<K: Sink, T: Texts>(
 // The bytes of an input read, and examined.
 fn run_bytes<K: Sink, T: Texts>(
     alloc: Global,
+    command: Command,
     depth: u32,
     bytes: &[u8],
     sink: &mut K,
@@ -107,7 +119,7 @@ fn run_bytes<K: Sink, T: Texts>(
 ) -> Outcome
     requires depth { 1 ≤ depth }
     requires short { length bytes.now ≤ limit }
-    ensures ends { Ends (T.relations texts.old) bytes.now (K.written sink.old) (K.written sink.new) result.status result.report result.fault }
+    ensures ends { Ends command (T.relations texts.old) bytes.now (K.written sink.old) (K.written sink.new) result.status result.report result.fault }
     ensures write_fault { result.status ≡ 5 → Rises (K.faults sink.old) (K.faults sink.new) }
     ensures kept { K.faults sink.old ≤ K.faults sink.new }
     ensures keeps { T.relations texts.new ≡ T.relations texts.old }
@@ -119,22 +131,31 @@ fn run_bytes<K: Sink, T: Texts>(
         Err(InputError::NotJson) => return Outcome::bare(3),
     };
     match input_parts(&value) {
-        Some(parts) => run_parts(alloc, depth, parts.schema, parts.values, sink, texts),
+        Some(parts) => run_parts(
+            alloc,
+            command,
+            depth,
+            parts.schema,
+            examined(command, parts.values),
+            sink,
+            texts,
+        ),
         None => Outcome::bare(3),
     }
 }
 
 // The input read to its end, and examined.
-fn run_check<S: Source, K: Sink, T: Texts>(
+fn run_command<S: Source, K: Sink, T: Texts>(
     alloc: Global,
+    command: Command,
     depth: u32,
     source: &mut S,
     sink: &mut K,
     texts: &mut T,
 ) -> Outcome
     requires { 1 ≤ depth }
-    ensures ends { (all : List ℕ) → S.left source.old ≡ Some all → EndsReading (T.relations texts.old) all (K.written sink.old) (K.written sink.new) result.status result.report result.fault }
-    ensures carried { IsCarried (T.relations texts.old) (K.written sink.old) (K.written sink.new) result.status result.report result.fault }
+    ensures ends { (all : List ℕ) → S.left source.old ≡ Some all → EndsReading command (T.relations texts.old) all (K.written sink.old) (K.written sink.new) result.status result.report result.fault }
+    ensures carried { IsCarried command (T.relations texts.old) (K.written sink.old) (K.written sink.new) result.status result.report result.fault }
     ensures built { result.status ≢ 2 }
     ensures within { result.status ≤ 6 }
     ensures spent { (all : List ℕ) → S.left source.old ≡ Some all → IsPrinting result.status → S.left source.new ≡ Some [] }
@@ -146,7 +167,7 @@ fn run_check<S: Source, K: Sink, T: Texts>(
     ensures counts { T.faults texts.old ≤ T.faults texts.new }
 {
     match read_input(alloc, source, LIMIT) {
-        Ok(bytes) => run_bytes(alloc, depth, &bytes, sink, texts),
+        Ok(bytes) => run_bytes(alloc, command, depth, &bytes, sink, texts),
         Err(InputFault::Memory) => Outcome::bare(6),
         Err(InputFault::Failed) => Outcome::bare(4),
         Err(InputFault::TooLong) => Outcome::bare(3),
@@ -155,7 +176,8 @@ fn run_check<S: Source, K: Sink, T: Texts>(
 
 /// Runs the program: the words after its name, an input from the source, the page or the line of a fault to the sink.
 /// `check DEPTH`, with DEPTH from 1 to 512, reads one JSON object with exactly the members `schema` and `values`, the
-/// latter a list, in at most 16,777,216 bytes, and examines them. The outcome's status says how it ended.
+/// latter a list, in at most 16,777,216 bytes, and examines them. `items DEPTH` reads the same, passes over the values, and prints
+/// the text of each item, each `Self` replaced as serde's derives do. The outcome's status says how it ended.
 pub fn run<S: Source, K: Sink, T: Texts>(
     alloc: Global,
     words: &[String],
@@ -164,19 +186,19 @@ pub fn run<S: Source, K: Sink, T: Texts>(
     texts: &mut T,
 ) -> Outcome
     ensures within { result.status ≤ 6 }
-    ensures carried { IsCarried (T.relations texts.old) (K.written sink.old) (K.written sink.new) result.status result.report result.fault }
-    ensures report { (all : List ℕ) → S.left source.old ≡ Some all → result.status ≡ 0 → IsReportPrinted (T.relations texts.old) all (K.written sink.old) (K.written sink.new) result.report result.fault }
-    ensures fault { (all : List ℕ) → S.left source.old ≡ Some all → result.status ≡ 1 → IsFaultPrinted all (K.written sink.old) (K.written sink.new) result.report result.fault }
-    ensures words { (result.status ≡ 2) ↔ (check_depth (map string_bytes words.now) ≡ None) }
+    ensures carried { IsCarried (command_of (map string_bytes words.now)) (T.relations texts.old) (K.written sink.old) (K.written sink.new) result.status result.report result.fault }
+    ensures report { (all : List ℕ) → S.left source.old ≡ Some all → result.status ≡ 0 → IsReportPrinted (command_of (map string_bytes words.now)) (T.relations texts.old) all (K.written sink.old) (K.written sink.new) result.report result.fault }
+    ensures fault { (all : List ℕ) → S.left source.old ≡ Some all → result.status ≡ 1 → IsFaultPrinted (command_of (map string_bytes words.now)) all (K.written sink.old) (K.written sink.new) result.report result.fault }
+    ensures words { (result.status ≡ 2) ↔ (depth_said (map string_bytes words.now) ≡ None) }
     ensures other_words { result.status ≡ 2 → (S.left source.new ≡ S.left source.old) × IsBare (K.written sink.old) (K.written sink.new) result.report result.fault }
     ensures no_input { (all : List ℕ) → S.left source.old ≡ Some all → result.status ≡ 3 → IsNoInput all × IsBare (K.written sink.old) (K.written sink.new) result.report result.fault }
     ensures read_fault { result.status ≡ 4 → Rises (S.faults source.old) (S.faults source.new) × IsBare (K.written sink.old) (K.written sink.new) result.report result.fault }
     ensures write_fault { result.status ≡ 5 → Rises (K.faults sink.old) (K.faults sink.new) }
-    ensures writing_cut { (all : List ℕ) → S.left source.old ≡ Some all → result.status ≡ 5 → IsWritingCut (T.relations texts.old) all (K.written sink.old) (K.written sink.new) result.report result.fault }
-    ensures memory { (all : List ℕ) → S.left source.old ≡ Some all → result.status ≡ 6 → IsMemorySpent (T.relations texts.old) all (K.written sink.old) (K.written sink.new) result.report result.fault }
+    ensures writing_cut { (all : List ℕ) → S.left source.old ≡ Some all → result.status ≡ 5 → IsWritingCut (command_of (map string_bytes words.now)) (T.relations texts.old) all (K.written sink.old) (K.written sink.new) result.report result.fault }
+    ensures memory { (all : List ℕ) → S.left source.old ≡ Some all → result.status ≡ 6 → IsMemorySpent (command_of (map string_bytes words.now)) (T.relations texts.old) all (K.written sink.old) (K.written sink.new) result.report result.fault }
     ensures refused { (all : List ℕ) → S.left source.old ≡ Some all → IsNoInput all → (result.status ≡ 2) ⊎ ((result.status ≡ 3) ⊎ IsCutShort result.status) }
-    ensures not_built { (all : List ℕ) (parts : Parts) → S.left source.old ≡ Some all → IsInput all parts → is_built parts ≡ false → (result.status ≡ 1) ⊎ ((result.status ≡ 2) ⊎ IsCutShort result.status) }
-    ensures faulty { (all : List ℕ) (parts : Parts) (f : FaultD) → S.left source.old ≡ Some all → IsInput all parts → IsCauseIn parts f → (result.status ≡ 1) ⊎ ((result.status ≡ 2) ⊎ IsCutShort result.status) }
+    ensures not_built { (all : List ℕ) (parts : Parts) → S.left source.old ≡ Some all → IsInput all parts → is_built (command_of (map string_bytes words.now)) parts ≡ false → (result.status ≡ 1) ⊎ ((result.status ≡ 2) ⊎ IsCutShort result.status) }
+    ensures faulty { (all : List ℕ) (parts : Parts) (f : FaultD) → S.left source.old ≡ Some all → IsInput all parts → IsCauseIn (command_of (map string_bytes words.now)) parts f → (result.status ≡ 1) ⊎ ((result.status ≡ 2) ⊎ IsCutShort result.status) }
     ensures spent { (all : List ℕ) → S.left source.old ≡ Some all → IsPrinting result.status → S.left source.new ≡ Some [] }
     ensures kept_source { S.faults source.old ≤ S.faults source.new }
     ensures kept_sink { K.faults sink.old ≤ K.faults sink.new }
@@ -184,7 +206,7 @@ pub fn run<S: Source, K: Sink, T: Texts>(
     ensures counts { T.faults texts.old ≤ T.faults texts.new }
 {
     match depth_of_words(words) {
-        Some(depth) => run_check(alloc, depth, source, sink, texts),
+        Some(depth) => run_command(alloc, command_of_words(words), depth, source, sink, texts),
         None => Outcome::bare(2),
     }
 }

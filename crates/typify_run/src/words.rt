@@ -1,15 +1,24 @@
 //! The words of the command line.
 ghost use Rattle.std.specs.Prelude.{◌≡◌, ◌≤◌, ◌-◌, map, string_bytes, true, IfSome, IsTrue};
-ghost use Rattle.typify_run.specs.Words.{check_depth, depth_of as depth_said, is_digit as is_digit_of, is_leading as is_leading_of, up_to};
+ghost use Rattle.typify_run.specs.Words.{command_of, depth_said, depth_of as depth_read, is_digit as is_digit_of, is_leading as is_leading_of, up_to};
 
-/// The depth that `check DEPTH` names, a number from 1 to 512; nothing for any other words.
-pub fn depth_of_words(words: &[String]) -> Option<u32>
-    ensures exact { result ≡ check_depth (map string_bytes words.now) }
+/// What the words ask for.
+#[derive(Clone, Copy)]
+pub(crate) enum Command {
+    /// Verdicts on the values.
+    Check,
+    /// The texts of the items.
+    Items,
+}
+
+/// The depth that `check DEPTH` or `items DEPTH` names, a number from 1 to 512; nothing for any other words.
+pub(crate) fn depth_of_words(words: &[String]) -> Option<u32>
+    ensures exact { result ≡ depth_said (map string_bytes words.now) }
     ensures within { IfSome result (λ n. 1 ≤ n) }
 {
     match words {
         [word, depth] => {
-            if word.as_str() == "check" {
+            if word.as_str() == "check" || word.as_str() == "items" {
                 depth_of(depth.as_bytes())
             } else {
                 None
@@ -19,9 +28,25 @@ pub fn depth_of_words(words: &[String]) -> Option<u32>
     }
 }
 
+/// What the words ask for, where they are some of the forms.
+pub(crate) fn command_of_words(words: &[String]) -> Command
+    ensures { result ≡ command_of (map string_bytes words.now) }
+{
+    match words {
+        [word, _] => {
+            if word.as_str() == "items" {
+                Command::Items
+            } else {
+                Command::Check
+            }
+        }
+        _ => Command::Check,
+    }
+}
+
 // One to three digits without a leading zero, up to 512.
 fn depth_of(digits: &[u8]) -> Option<u32>
-    ensures exact { result ≡ depth_said digits.now }
+    ensures exact { result ≡ depth_read digits.now }
     ensures within { IfSome result (λ n. 1 ≤ n) }
 {
     match digits {

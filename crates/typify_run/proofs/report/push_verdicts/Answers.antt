@@ -1,6 +1,6 @@
 use Rattle.std.proofs.Common.{◌++◌, map, take, string_bytes, subst, ap, sym, ◌∙◌, append_assoc}
-use Rattle.typify_run.specs.declared.judge.verdict.Verdict.{Verdict}
-use Rattle.typify_run.specs.Verdict.{verdict_view}
+use Rattle.derive_model.specs.declared.verdict.Verdict.{Verdict}
+use Rattle.derive_model.specs.VerdictView.{verdict_view}
 use Rattle.typify_run.specs.Page.{verdict_line, verdict_lines, IsPrintable}
 use Rattle.typify_run.proofs.Verdicts.{verdict_lines-more, printable_at}
 use Rattle.typify_run.proofs.report.push_verdicts.Goals as goal

@@ -1,5 +1,5 @@
 use Rattle.std.proofs.Common.{◌≡◌, ◌++◌, map, take, string_bytes}
-use Rattle.typify_run.specs.Verdict.{verdict_view}
+use Rattle.derive_model.specs.VerdictView.{verdict_view}
 use Rattle.typify_run.specs.Page.{verdict_lines}
 use Rattle.typify_run.proofs.report.push_verdicts.Given as goal
 

@@ -8,5 +8,5 @@ pub returns-in-Err-Memory-clause-answer : goal.returns-in-Err-Memory-clause-answ
 returns-in-Err-Memory-clause-answer g c = λ texts parts h.
     let old = g.K.Sink.written c.args.sink.now in
     let new = g.K.Sink.written c.put.new.sink in
-    subst (λ (o : Outcome). Answers texts parts old new o.status o.report o.fault) (sym c.bare-in-Err-Memory.ensures)
+    subst (λ (o : Outcome). Answers c.args.command texts parts old new o.status o.report o.fault) (sym c.bare-in-Err-Memory.ensures)
     (inr (inl (c.args.report, h, subst (λ b. AppendsPrefix old new b) (c.as_bytes.ensures.value ∙ c.in-Ok.ensures) c.in-Err-Memory.ensures.front)))

@@ -2,14 +2,15 @@ use Rattle.std.proofs.Common.{◌≡◌, refl, sym, ap, map, inl, inr, subst, �
 use Rattle.serde_json.specs.View.{view, items_view}
 use Rattle.run_input.specs.Input.{Parts, data_of}
 use Rattle.run_input.proofs.Inputs.{data_of_items}
-use Rattle.typify_run.specs.Outcome.{Ends}
+use Rattle.typify_run.specs.Outcome.{Ends, examined, values_of}
 use Rattle.typify_run.specs.declared.outcome.Outcome.{Outcome}
 use Rattle.typify_run.proofs.top.run_bytes.Goals as goal
 
 pub returns-in-Some-clause-ends : goal.returns-in-Some-clause-ends
 returns-in-Some-clause-ends g c =
     let parts : Parts = record { schema = view c.in-Some.parts.schema.now; values = items_view c.in-Some.parts.values.now.items } in
-    let values : data_of parts.values ≡ map view c.deref.result.now = data_of_items (map view c.in-Some.parts.values.now.items) ∙ ap (map view) (sym c.deref.ensures.value) in
+    let listed : data_of parts.values ≡ map view c.deref.result.now = data_of_items (map view c.in-Some.parts.values.now.items) ∙ ap (map view) (sym c.deref.ensures.value) in
+    let values : values_of c.args.command parts ≡ map view c.examined.result.now = ap (examined c.args.command) listed ∙ sym c.examined.ensures in
     inr (inr (
       parts,
       record { short = c.requires.short; utf8 = c.in-Ok.ensures.value.0; read = (view c.in-Ok.value, c.in-Ok.ensures.value.1, sym c.in-Some.ensures) },
@@ -19,5 +20,5 @@ returns-in-Some-clause-ends g c =
 pub returns-in-Err-NotJson-clause-ends : goal.returns-in-Err-NotJson-clause-ends
 returns-in-Err-NotJson-clause-ends g c =
     let old = g.K.Sink.written c.args.sink.now in
-    subst (λ (o : Outcome). Ends (g.T.Texts.relations c.args.texts.now) c.args.bytes.now old old o.status o.report o.fault) (sym c.bare-in-Err-NotJson.ensures)
+    subst (λ (o : Outcome). Ends c.args.command (g.T.Texts.relations c.args.texts.now) c.args.bytes.now old old o.status o.report o.fault) (sym c.bare-in-Err-NotJson.ensures)
     (inl (refl, c.in-Err-NotJson.ensures.no_input c.in-Err-NotJson.field-0-is, (refl, refl, refl)))
