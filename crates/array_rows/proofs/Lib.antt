@@ -1,0 +1,2 @@
+pub mod ArrayViews
+pub mod Sizes

@@ -1,0 +1,4 @@
+pub mod Beyond
+pub mod FirstKind
+pub mod Steps
+pub mod Whole

@@ -1,0 +1,9 @@
+//! The row of whole numbers: the type that bounds and a format choose.
+#![tactic(auto)]
+
+mod bounds;
+mod choice;
+mod integer;
+mod kinds;
+
+pub use integer::integer_finding;

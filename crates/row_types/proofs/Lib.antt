@@ -1,0 +1,4 @@
+pub mod Objects
+pub mod PlainRows
+pub mod Seen
+pub mod Types
