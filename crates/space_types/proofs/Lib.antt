@@ -1,0 +1,5 @@
+pub mod Pieces
+pub mod Turns
+pub mod Found
+pub mod Tuples
+pub mod RestNames
