@@ -1,0 +1,4 @@
+pub mod MemberViews
+pub mod Named
+pub mod Notes
+pub mod Outside
