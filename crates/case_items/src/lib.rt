@@ -1,0 +1,9 @@
+//! Items from their tokens, for programs that read cases. In types and parameters no comma stands outside of groups.
+#![tactic(auto)]
+
+mod header;
+mod item;
+mod meta;
+
+pub use item::item_of;
+pub use meta::no_case;
