@@ -54,7 +54,7 @@ module _ (models : List ContainerModel) (cs : ConversionsD) (r : Relations) wher
     body_good (struct_model s fs) a b c = fields_good fs a b
     body_good (enum_model tag ws) a b c = variants_good ws a b c
 
-    found_good : (n : List ℕ) (us : List ContainerModel) → list_all (λ m. is_body_fit m.body) us ≡ true → list_all (λ m. body_is_sound models cs r m.body) us ≡ true → list_all (λ m. body_has_shape m.body) us ≡ true
+    pub found_good : (n : List ℕ) (us : List ContainerModel) → list_all (λ m. is_body_fit m.body) us ≡ true → list_all (λ m. body_is_sound models cs r m.body) us ≡ true → list_all (λ m. body_has_shape m.body) us ≡ true
         → list_all (λ m. not m.try_from || is_newtype m.body) us ≡ true → GivenIsGood models E d q (container_named n us)
     found_good n [] a b c e = tt
     found_good n (m ∷ us) a b c e =

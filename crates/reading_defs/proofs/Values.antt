@@ -27,6 +27,75 @@ use Rattle.reading_defs.proofs.Types.{Inside, none_inside, items_inside, members
 use Rattle.reading_defs.proofs.Items.{Fits, GivenIsGood, GivenSaysSame, BodySaysSame, VariantsSaySame, container_agrees, content_agrees}
 use Rattle.reading_defs.proofs.Spare.{content_same, spare_reads}
 
+-- ---- empty values
+
+module _ (models : List ContainerModel) (cs : ConversionsD) (r : Relations) (q : ℕ → TypeModel → Read Typed) where
+  some_kept : (x : Typed) (rr : Read Typed) → read_map typed.some rr ≡ taken x → counts_as_empty x ≡ false
+  some_kept x (taken y) e = let h : typed.some y ≡ x = cc in sym (ap counts_as_empty h)
+  some_kept x (stopped l) e = cc
+  some_kept x unsound e = cc
+
+  list_kept : (f : List Typed → List Typed) (x : Typed) → ((y : Typed) (ys : List Typed) → counts_as_empty (typed.list (typeds (f (y ∷ ys)))) ≡ false) → (rr : Read Typed) (rs : Read (List Typed))
+      → read_map (λ xs. typed.list (typeds (f xs))) (followed rr rs) ≡ taken x → counts_as_empty x ≡ false
+  list_kept f x g (taken y) (taken ys) e = let h : typed.list (typeds (f (y ∷ ys))) ≡ x = cc in sym (ap counts_as_empty h) ∙ g y ys
+  list_kept f x g (taken y) (stopped l) e = cc
+  list_kept f x g (taken y) unsound e = cc
+  list_kept f x g (stopped l) rs e = cc
+  list_kept f x g unsound rs e = cc
+
+  map_kept : (x : Typed) (rr : Read (Typed × Typed)) (rs : Read (List (Typed × Typed))) → read_map (λ es. typed.map_of (pairs es)) (followed rr rs) ≡ taken x → counts_as_empty x ≡ false
+  map_kept x (taken y) (taken ys) e = let h : typed.map_of (pairs (y ∷ ys)) ≡ x = cc in sym (ap counts_as_empty h)
+  map_kept x (taken y) (stopped l) e = cc
+  map_kept x (taken y) unsound e = cc
+  map_kept x (stopped l) rs e = cc
+  map_kept x unsound rs e = cc
+
+  empty_is : (x y : Typed) → taken x ≡ taken y → counts_as_empty x ≡ true → counts_as_empty y ≡ true
+  empty_is x y e h = let k : x ≡ y = cc in sym (ap counts_as_empty k) ∙ h
+
+  abbrev Empties : Value → Type 0
+  Empties v = (t : TypeModel) (x : Typed) → may_be_empty t ≡ true → (value_reader models cs r q v).as_type t ≡ taken x → counts_as_empty x ≡ is_empty_at no_helper t v
+
+  pub empties : (v : Value) → Empties v
+  empties null (option_type t) x m e = empty_is typed.none x e refl
+  empties null (vec_type t) x m e = cc
+  empties null (set_type t) x m e = cc
+  empties null (map_type k t) x m e = cc
+  empties null _ x m e = absurd (true≢false (sym m))
+  empties (value.boolean b) (option_type t) x m e = some_kept x _ e
+  empties (value.boolean b) (vec_type t) x m e = cc
+  empties (value.boolean b) (set_type t) x m e = cc
+  empties (value.boolean b) (map_type k t) x m e = cc
+  empties (value.boolean b) _ x m e = absurd (true≢false (sym m))
+  empties (number z) (option_type t) x m e = some_kept x _ e
+  empties (number z) (vec_type t) x m e = cc
+  empties (number z) (set_type t) x m e = cc
+  empties (number z) (map_type k t) x m e = cc
+  empties (number z) _ x m e = absurd (true≢false (sym m))
+  empties fraction (option_type t) x m e = some_kept x _ e
+  empties fraction (vec_type t) x m e = cc
+  empties fraction (set_type t) x m e = cc
+  empties fraction (map_type k t) x m e = cc
+  empties fraction _ x m e = absurd (true≢false (sym m))
+  empties (text s) (option_type t) x m e = some_kept x _ e
+  empties (text s) (vec_type t) x m e = cc
+  empties (text s) (set_type t) x m e = cc
+  empties (text s) (map_type k t) x m e = cc
+  empties (text s) _ x m e = absurd (true≢false (sym m))
+  empties (list xs) (option_type t) x m e = some_kept x _ e
+  empties (list no_items) (vec_type t) x m e = empty_is (typed.list (typeds [])) x e refl
+  empties (list (item v vs)) (vec_type t) x m e = list_kept (λ ys. ys) x (λ y ys. refl) _ _ e
+  empties (list no_items) (set_type t) x m e = empty_is (typed.list (typeds [])) x e refl
+  empties (list (item v vs)) (set_type t) x m e = list_kept (keep_apart (written models t) []) x (λ y ys. refl) _ _ e
+  empties (list xs) (map_type k t) x m e = cc
+  empties (list xs) _ x m e = absurd (true≢false (sym m))
+  empties (object ms) (option_type t) x m e = some_kept x _ e
+  empties (object ms) (vec_type t) x m e = cc
+  empties (object ms) (set_type t) x m e = cc
+  empties (object no_members) (map_type k t) x m e = empty_is (typed.map_of (pairs [])) x e refl
+  empties (object (member n v ms)) (map_type k t) x m e = map_kept x _ _ e
+  empties (object ms) _ x m e = absurd (true≢false (sym m))
+
 module _ (models : List ContainerModel) (cs : ConversionsD) (r : Relations) (E : Type 0) (d : ℕ → TypeModel → Value) (q : ℕ → TypeModel → Read Typed)
     (none : NoneReachesItself models) (good : (n : List ℕ) → GivenIsGood models E d q (container_named n models)) where
   abbrev lead : TypeModel → Bool
@@ -174,74 +243,6 @@ module _ (models : List ContainerModel) (cs : ConversionsD) (r : Relations) (E :
     pub textual : (t : TypeModel) → Of (allowed models) s t ≡ true → IsTextual (As (allowed models) s t)
     textual t = type_textual (allowed models) t (λ n a. item_textual (allowed models) (omega arith) n (λ l b. all_end models none l))
 
-  -- ---- empty values
-
-  some_kept : (x : Typed) (rr : Read Typed) → read_map typed.some rr ≡ taken x → counts_as_empty x ≡ false
-  some_kept x (taken y) e = let h : typed.some y ≡ x = cc in sym (ap counts_as_empty h)
-  some_kept x (stopped l) e = cc
-  some_kept x unsound e = cc
-
-  list_kept : (f : List Typed → List Typed) (x : Typed) → ((y : Typed) (ys : List Typed) → counts_as_empty (typed.list (typeds (f (y ∷ ys)))) ≡ false) → (rr : Read Typed) (rs : Read (List Typed))
-      → read_map (λ xs. typed.list (typeds (f xs))) (followed rr rs) ≡ taken x → counts_as_empty x ≡ false
-  list_kept f x g (taken y) (taken ys) e = let h : typed.list (typeds (f (y ∷ ys))) ≡ x = cc in sym (ap counts_as_empty h) ∙ g y ys
-  list_kept f x g (taken y) (stopped l) e = cc
-  list_kept f x g (taken y) unsound e = cc
-  list_kept f x g (stopped l) rs e = cc
-  list_kept f x g unsound rs e = cc
-
-  map_kept : (x : Typed) (rr : Read (Typed × Typed)) (rs : Read (List (Typed × Typed))) → read_map (λ es. typed.map_of (pairs es)) (followed rr rs) ≡ taken x → counts_as_empty x ≡ false
-  map_kept x (taken y) (taken ys) e = let h : typed.map_of (pairs (y ∷ ys)) ≡ x = cc in sym (ap counts_as_empty h)
-  map_kept x (taken y) (stopped l) e = cc
-  map_kept x (taken y) unsound e = cc
-  map_kept x (stopped l) rs e = cc
-  map_kept x unsound rs e = cc
-
-  empty_is : (x y : Typed) → taken x ≡ taken y → counts_as_empty x ≡ true → counts_as_empty y ≡ true
-  empty_is x y e h = let k : x ≡ y = cc in sym (ap counts_as_empty k) ∙ h
-
-  abbrev Empties : Value → Type 0
-  Empties v = (t : TypeModel) (x : Typed) → may_be_empty t ≡ true → (value_reader models cs r q v).as_type t ≡ taken x → counts_as_empty x ≡ is_empty_at no_helper t v
-
-  pub empties : (v : Value) → Empties v
-  empties null (option_type t) x m e = empty_is typed.none x e refl
-  empties null (vec_type t) x m e = cc
-  empties null (set_type t) x m e = cc
-  empties null (map_type k t) x m e = cc
-  empties null _ x m e = absurd (true≢false (sym m))
-  empties (value.boolean b) (option_type t) x m e = some_kept x _ e
-  empties (value.boolean b) (vec_type t) x m e = cc
-  empties (value.boolean b) (set_type t) x m e = cc
-  empties (value.boolean b) (map_type k t) x m e = cc
-  empties (value.boolean b) _ x m e = absurd (true≢false (sym m))
-  empties (number z) (option_type t) x m e = some_kept x _ e
-  empties (number z) (vec_type t) x m e = cc
-  empties (number z) (set_type t) x m e = cc
-  empties (number z) (map_type k t) x m e = cc
-  empties (number z) _ x m e = absurd (true≢false (sym m))
-  empties fraction (option_type t) x m e = some_kept x _ e
-  empties fraction (vec_type t) x m e = cc
-  empties fraction (set_type t) x m e = cc
-  empties fraction (map_type k t) x m e = cc
-  empties fraction _ x m e = absurd (true≢false (sym m))
-  empties (text s) (option_type t) x m e = some_kept x _ e
-  empties (text s) (vec_type t) x m e = cc
-  empties (text s) (set_type t) x m e = cc
-  empties (text s) (map_type k t) x m e = cc
-  empties (text s) _ x m e = absurd (true≢false (sym m))
-  empties (list xs) (option_type t) x m e = some_kept x _ e
-  empties (list no_items) (vec_type t) x m e = empty_is (typed.list (typeds [])) x e refl
-  empties (list (item v vs)) (vec_type t) x m e = list_kept (λ ys. ys) x (λ y ys. refl) _ _ e
-  empties (list no_items) (set_type t) x m e = empty_is (typed.list (typeds [])) x e refl
-  empties (list (item v vs)) (set_type t) x m e = list_kept (keep_apart (written models t) []) x (λ y ys. refl) _ _ e
-  empties (list xs) (map_type k t) x m e = cc
-  empties (list xs) _ x m e = absurd (true≢false (sym m))
-  empties (object ms) (option_type t) x m e = some_kept x _ e
-  empties (object ms) (vec_type t) x m e = cc
-  empties (object ms) (set_type t) x m e = cc
-  empties (object no_members) (map_type k t) x m e = empty_is (typed.map_of (pairs [])) x e refl
-  empties (object (member n v ms)) (map_type k t) x m e = map_kept x _ _ e
-  empties (object ms) _ x m e = absurd (true≢false (sym m))
-
   -- ---- by the parts of the value
 
   pub record AgreesAt (v : Value) (pj : Parts Judge) (ps : Parts Seen) (pp : Parts Part) (pr : Parts Reader) : Type 0 where
@@ -270,7 +271,7 @@ module _ (models : List ContainerModel) (cs : ConversionsD) (r : Relations) (E :
     reader = value_reader models cs r q v;
     as_type = a.as_type;
     as_content = a.as_content;
-    empties = empties v;
+    empties = empties models cs r q v;
   }
 
   abbrev AllAgree : Items → Type 0

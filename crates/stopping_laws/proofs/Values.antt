@@ -1,30 +1,30 @@
 -- All values: reading stops where the definition says, by the parts of the value and the items that are entered at it.
-use Rattle.std.proofs.Common.{◌≡◌, ℕ, zero, suc, List, [], ◌∷◌, map, length, Bool, true, false, cond, refl, sym, ap, ◌∙◌, subst, true≢false, Option, Some, None}
+use Rattle.std.proofs.Common.{◌≡◌, ℕ, zero, suc, List, [], ◌∷◌, map, length, Bool, true, refl, sym, ap, ◌∙◌, subst, Option, Some, None}
 use Rattle.json_value.specs.Value as value
 use Rattle.json_value.specs.Value.{Value, Items, Members, null, number, fraction, text, list, object, item, no_items, member, no_members}
 use Rattle.schema_defs.specs.Location.{Location}
 use Rattle.schema_defs.specs.Texts.{Relations}
-use Rattle.model_defs.specs.Types.{TypeModel, option_type, vec_type, set_type, map_type, item_type}
-use Rattle.model_defs.specs.Model.{no_helper, stated_default, VariantModel, external_tag, internal_tag, adjacent_tag, untagged, BodyModel, struct_model, enum_model, ContainerModel, ConversionsD, container_named}
-use Rattle.model_defs.specs.Layer.{Content, one_type, places, named_fields, Judge, Parts, no_parts, list_parts, object_parts, is_null, type_takes, content_takes}
+use Rattle.model_defs.specs.Types.{TypeModel, item_type}
+use Rattle.model_defs.specs.Model.{stated_default, VariantModel, external_tag, internal_tag, adjacent_tag, untagged, BodyModel, struct_model, enum_model, ContainerModel, ConversionsD, container_named}
+use Rattle.model_defs.specs.Layer.{Content, one_type, places, named_fields, Judge, Parts, no_parts, list_parts, object_parts, type_takes, content_takes}
 use Rattle.model_defs.specs.Reads.{allowed, leads_to_option, item_reads, value_reads, reads_within, parts_of, item_judges, member_judges}
 use Rattle.model_defs.specs.Refusals.{Seen, item_stops, value_stops, items_seen, members_seen, type_stops, content_stops}
-use Rattle.model_defs.specs.Settled.{Part, type_writes, is_empty_at, content_writes}
+use Rattle.model_defs.specs.Settled.{Part, type_writes, content_writes}
 use Rattle.model_defs.proofs.Rows.{reads-level}
-use Rattle.typed_defs.specs.Typed as typed
-use Rattle.typed_defs.specs.Typed.{Typed, typeds, pairs}
-use Rattle.typed_defs.specs.Written.{written, counts_as_empty}
-use Rattle.typed_defs.specs.Fit.{may_be_empty}
+use Rattle.typed_defs.specs.Typed.{Typed}
+use Rattle.typed_defs.specs.Written.{written}
 use Rattle.reading_defs.specs.Proper.{has_json_numbers, items_have_json_numbers, members_have_json_numbers}
-use Rattle.reading_defs.specs.Reading.{Read, taken, stopped, unsound, Reader, read_map, followed, keep_apart, item_reading, value_reader, readers_of, reader_within, item_readers, member_readers, default_inside, type_read, content_read, type_within, list_read, object_read, absent, reading}
+use Rattle.reading_defs.specs.Reading.{Read, taken, stopped, unsound, Reader, read_map, item_reading, value_reader, item_readers, member_readers, default_inside, type_read, content_read, absent, reading}
 use Rattle.reading_defs.specs.Laws.{is_taken, is_sound}
+use Rattle.reading_defs.proofs.Levels.{found_good}
+use Rattle.reading_defs.proofs.Values.{empties}
 use Rattle.reading_defs.proofs.Agree.{Agrees, agrees_as, and_left, and_right}
 use Rattle.reading_defs.proofs.Good.{ContentIsGood}
 use Rattle.reading_defs.proofs.Parts.{Part', Entry, IsTextual, contents_written, takes_of, seen_of, reader_of, takes_at, seen_at, reader_at}
 use Rattle.reading_defs.proofs.Types.{Inside, none_inside, items_inside, members_inside, takes_in, seen_in, parts_in, readers_in, type_agrees}
 use Rattle.reading_defs.proofs.Items.{Fits, GivenIsGood, GivenSaysSame, BodySaysSame, VariantsSaySame, container_agrees, content_agrees}
 use Rattle.stopping_laws.specs.Laws.{IsStop, ReadingStops}
-use Rattle.stopping_laws.proofs.Goods.{put_default, only_taken, stops_along, taken_where, found_good}
+use Rattle.stopping_laws.proofs.Goods.{put_default, only_taken, stops_along, taken_where, field_good}
 use Rattle.stopping_laws.proofs.Stops.{Takes, own_stops, type_stops_same, content_stops_same}
 use Rattle.stopping_laws.proofs.Texts.{own_writes, textual}
 
@@ -154,82 +154,6 @@ module _ (models : List ContainerModel) (cs : ConversionsD) (r : Relations) (q :
     put_is : (v : Value) (t : TypeModel) (x : Typed) → (value_reader models cs r q v).as_type t ≡ taken x → written models t x ≡ put_by v (one_type t)
     put_is v t x e = sym (ap (put_content (one_type t)) (one_content v t ∙ ap (read_map (λ y. y ∷ [])) e))
 
-    -- ---- empty values
-
-    some_kept : (b : Bool) (x : Typed) (rr : Read Typed) → cond b (taken typed.none) (read_map typed.some rr) ≡ taken x → counts_as_empty x ≡ b
-    some_kept true x rr e = let h : typed.none ≡ x = cc in sym (ap counts_as_empty h)
-    some_kept false x (taken y) e = let h : typed.some y ≡ x = cc in sym (ap counts_as_empty h)
-    some_kept false x (stopped l) e = cc
-    some_kept false x unsound e = cc
-
-    list_kept : (f : List Typed → List Typed) (x : Typed) → ((y : Typed) (ys : List Typed) → counts_as_empty (typed.list (typeds (f (y ∷ ys)))) ≡ false) → (rr : Read Typed) (rs : Read (List Typed))
-        → read_map (λ xs. typed.list (typeds (f xs))) (followed rr rs) ≡ taken x → counts_as_empty x ≡ false
-    list_kept f x g (taken y) (taken ys) e = let h : typed.list (typeds (f (y ∷ ys))) ≡ x = cc in sym (ap counts_as_empty h) ∙ g y ys
-    list_kept f x g (taken y) (stopped l) e = cc
-    list_kept f x g (taken y) unsound e = cc
-    list_kept f x g (stopped l) rs e = cc
-    list_kept f x g unsound rs e = cc
-
-    map_kept : (x : Typed) (rr : Read (Typed × Typed)) (rs : Read (List (Typed × Typed))) → read_map (λ es. typed.map_of (pairs es)) (followed rr rs) ≡ taken x → counts_as_empty x ≡ false
-    map_kept x (taken y) (taken ys) e = let h : typed.map_of (pairs (y ∷ ys)) ≡ x = cc in sym (ap counts_as_empty h)
-    map_kept x (taken y) (stopped l) e = cc
-    map_kept x (taken y) unsound e = cc
-    map_kept x (stopped l) rs e = cc
-    map_kept x unsound rs e = cc
-
-    empty_is : (x y : Typed) → taken x ≡ taken y → counts_as_empty x ≡ true → counts_as_empty y ≡ true
-    empty_is x y e h = let k : x ≡ y = cc in sym (ap counts_as_empty k) ∙ h
-
-    list_empty : (f : List Typed → List Typed) → f [] ≡ [] → ((y : Typed) (ys : List Typed) → counts_as_empty (typed.list (typeds (f (y ∷ ys)))) ≡ false) → (t : TypeModel) (v : Value) (x : Typed)
-        → read_map (λ xs. typed.list (typeds (f xs))) (list_read t (readers_of models cs r q v)) ≡ taken x → counts_as_empty x ≡ is_empty_at no_helper (vec_type t) v
-    list_empty f n g t (list no_items) x e = empty_is (typed.list (typeds (f []))) x e (ap (λ ys. counts_as_empty (typed.list (typeds ys))) n)
-    list_empty f n g t (list (item v vs)) x e = list_kept f x g _ _ e
-    list_empty f n g t null x e = cc
-    list_empty f n g t (value.boolean b) x e = cc
-    list_empty f n g t (number z) x e = cc
-    list_empty f n g t fraction x e = cc
-    list_empty f n g t (text s) x e = cc
-    list_empty f n g t (object ms) x e = cc
-
-    map_empty : (k t : TypeModel) (v : Value) (x : Typed) → object_read k t (readers_of models cs r q v) ≡ taken x → counts_as_empty x ≡ is_empty_at no_helper (map_type k t) v
-    map_empty k t (object no_members) x e = empty_is (typed.map_of (pairs [])) x e refl
-    map_empty k t (object (member n v ms)) x e = map_kept x _ _ e
-    map_empty k t null x e = cc
-    map_empty k t (value.boolean b) x e = cc
-    map_empty k t (number z) x e = cc
-    map_empty k t fraction x e = cc
-    map_empty k t (text s) x e = cc
-    map_empty k t (list xs) x e = cc
-
-    reader_is : (v : Value) → value_reader models cs r q v ≡ reader_within models cs r q v (readers_of models cs r q v) (allowed models)
-    reader_is null = refl
-    reader_is (value.boolean b) = refl
-    reader_is (number z) = refl
-    reader_is fraction = refl
-    reader_is (text s) = refl
-    reader_is (list xs) = refl
-    reader_is (object ms) = refl
-
-    set_is_vec : (t : TypeModel) (v : Value) → is_empty_at no_helper (vec_type t) v ≡ is_empty_at no_helper (set_type t) v
-    set_is_vec t (list no_items) = refl
-    set_is_vec t (list (item v vs)) = refl
-    set_is_vec t null = refl
-    set_is_vec t (value.boolean b) = refl
-    set_is_vec t (number z) = refl
-    set_is_vec t fraction = refl
-    set_is_vec t (text s) = refl
-    set_is_vec t (object ms) = refl
-
-    emptied : (v : Value) (t : TypeModel) (x : Typed) → may_be_empty t ≡ true → type_within models cs r q v (readers_of models cs r q v) (allowed models) t ≡ taken x → counts_as_empty x ≡ is_empty_at no_helper t v
-    emptied v (option_type t) x m e = some_kept (is_null v) x _ e
-    emptied v (vec_type t) x m e = list_empty (λ ys. ys) refl (λ y ys. refl) t v x e
-    emptied v (set_type t) x m e = list_empty (keep_apart (written models t) []) refl (λ y ys. refl) t v x e ∙ set_is_vec t v
-    emptied v (map_type k t) x m e = map_empty k t v x e
-    emptied v _ x m e = absurd (true≢false (sym m))
-
-    empties : (v : Value) (t : TypeModel) (x : Typed) → may_be_empty t ≡ true → (value_reader models cs r q v).as_type t ≡ taken x → counts_as_empty x ≡ is_empty_at no_helper t v
-    empties v t x m e = emptied v t x m (sym (ap (λ z. z.as_type t) (reader_is v)) ∙ e)
-
     -- ---- the part that a value is
 
     abbrev part_for : (v : Value) → ValueStops v → P'
@@ -243,7 +167,7 @@ module _ (models : List ContainerModel) (cs : ConversionsD) (r : Relations) (q :
       as_content = λ c g.
           agrees_as ⊥ (λ xs. (value_reader models cs r q v).as_content c ≡ taken xs) (λ xs. contents_written models ⊥ d q c xs ≡ put_by v c) (value_reads models cs r v c) (value_stops models cs r v c) (λ xs e. sym (ap (put_content c) e))
           ((value_reader models cs r q v).as_content c) (a.as_content c g);
-      empties = empties v;
+      empties = empties models cs r q v;
     }
 
     -- a name is a text, and is written as one
@@ -356,7 +280,7 @@ pub reading_stops : ReadingStops
 reading_stops models cs r p t v h =
     let q = default_inside models cs r (length cs.defaults) [] in
     let is : (n : ℕ) (s : TypeModel) → is_sound models cs r s (stated_default n) ≡ true → is_taken (q n s) ≡ true = λ n s e. e in
-    let good = λ (n : List ℕ). found_good models cs r q is n models p.fit p.sound p.shapes p.rules in
+    let good = λ (n : List ℕ). found_good models cs r ⊥ (put_default models cs r q is) q (field_good models cs r q is) n models p.fit p.sound p.shapes p.rules in
     by (value_reads models cs r v (one_type t)) (reading models cs r t v) ((value_stops_so models cs r q is good v h).as_type t)
   where
     by : (b : Bool) (a : Read Typed) → Agrees ⊥ b (value_stops models cs r v (one_type t)) (λ x. reading models cs r t v ≡ taken x) a → IsStop b (value_stops models cs r v (one_type t)) a

@@ -1,4 +1,5 @@
--- Typed values of a type: those that reading answers are among them.
+-- Typed values of a type: where what is written reads back, those that reading answers are among them (typed_laws);
+-- by some tables they are not.
 use Rattle.std.specs.Prelude.{ℕ, ◌&&◌, ◌||◌, not, ◌==◌, List, [], ◌∷◌, length, map, slice_get, Bool, true, false, Option, Some, None}
 use Rattle.std.specs.List.{list_all, list_any}
 use Rattle.std.specs.Ordering.{nat_cmp, is_lt}
