@@ -14,7 +14,7 @@ module _ (leads : Target → Id → Bool) (space : Space) where
   abbrev pub ItemIsHeld : ItemEntry → Type 0
   ItemIsHeld x = (i : Id) × Holds leads space (item x.name x.shape) i
 
-  -- the entry is there, or it is a reference and the id is that of what it leads to: nothing else may refer there, so that no entry has it
+  -- the entry is there, or it is a reference and the id is that of what it leads to: there need be no entry that refers there
   abbrev pub Stands : Entry → Id → Type 0
   Stands e i = Holds leads space e i ⊎ ((q : Target) × (e ≡ reference q) × (leads q i ≡ true))
 

@@ -9,7 +9,7 @@ use Rattle.space_defs.specs.Types.{none_boxed}
 abbrev pub space_view : List TypeEntry → Space
 space_view entries = map entry_view entries
 
--- two ids lie in one part; what is no id of the space lies in none
+-- an id of the space and another lie in one part; what is no id of the space lies in none
 abbrev pub same_part : List ℕ → Id → Id → Bool
 same_part parts owner used = nat_lt used (length parts) && (slice_index parts owner == slice_index parts used)
 
