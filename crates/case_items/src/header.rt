@@ -6,7 +6,7 @@ use std::alloc::Global;
 use syntax_parsers::{read_where, read_whole_type};
 
 /// The type that the tokens are.
-pub(crate) fn ty_of(alloc: Global, trees: &[TokenTree]) -> Result<Ty, ParseFault> {
+pub fn ty_of(alloc: Global, trees: &[TokenTree]) -> Result<Ty, ParseFault> {
     read_whole_type(alloc, Span::call_site(), trees)
 }
 

@@ -5,5 +5,6 @@ mod header;
 mod item;
 mod meta;
 
+pub use header::ty_of;
 pub use item::item_of;
 pub use meta::no_case;

@@ -16,9 +16,6 @@
 //! them has a getter.
 #![tactic(auto)]
 
-mod header;
-mod item;
-mod meta;
 mod modules;
 mod numbers;
 mod reading;

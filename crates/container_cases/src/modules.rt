@@ -1,7 +1,6 @@
 //! Modules of items are made, and what came of it is printed.
-use crate::header::ty_of;
-use crate::meta::no_case;
 use crate::reading::{Marks, placed_item, show_told, tokens_of};
+use case_items::{no_case, ty_of};
 use derive_model::{Module, ModuleError};
 use rust_syntax::{DeriveInput, ParseFault};
 use schema_tree::{Constraint, Conversions, Rule};

@@ -1,12 +1,11 @@
 //! The reader is called, and what it answers is printed.
 ghost use Rattle.std.specs.Prelude.{◌≡◌, ◌++◌, codes, string_bytes, IfOk};
 
-use crate::item::item_of;
-use crate::meta::no_case;
 use crate::modules::module_answer;
 use crate::numbers::{Places, placed_trees};
 use crate::show::{show_container, show_place};
 use attr_parts::{Ctxt, Derive, Diagnostic, RenameRule, Renamer};
+use case_items::{item_of, no_case};
 use container_readers::Container;
 use rust_syntax::{DeriveInput, ParseFault};
 use rust_tokens::{Ident, LexError, Span, TokenStream, lex};
