@@ -1,3 +1,4 @@
 pub mod TypeForms
 pub mod Seen
 pub mod Rests
+pub mod Named

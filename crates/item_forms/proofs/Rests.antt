@@ -1,10 +1,9 @@
--- Rests, counted field by field, and names that come twice.
-use Rattle.std.proofs.Common.{◌≡◌, ℕ, suc, ◌+◌, ◌<◌, ◌≤◌, ◌||◌, List, [], ◌∷◌, map, drop, drop-cons, length, get_or, Bool, true, false, not, refl, sym, ap, ◌∙◌, arith}
-use Rattle.std.specs.Prelude.{bytes_eq, if◌then◌else◌}
-use Rattle.std.specs.List.{list_any}
+-- Rests, counted field by field.
+use Rattle.std.proofs.Common.{◌≡◌, ℕ, suc, ◌+◌, ◌<◌, ◌≤◌, List, [], ◌∷◌, map, drop, drop-cons, length, get_or, Bool, true, false, not, refl, sym, ap, ◌∙◌, arith}
+use Rattle.std.specs.Prelude.{if◌then◌else◌}
 use Rattle.std.proofs.lemmas.List.{drop_all}
 use Rattle.container_defs.specs.Container.{ReadField}
-use Rattle.container_defs.specs.Forms.{rests, is_empty, written_name, repeats_name}
+use Rattle.container_defs.specs.Forms.{rests, is_empty}
 use Rattle.item_forms.specs.declared.beside.Count.{Count}
 use Rattle.item_forms.specs.declared.beside.Count.TheVariants.{None, One, Several}
 use Rattle.item_forms.specs.Counts.{count_of, one_more}
@@ -55,25 +54,3 @@ one_counted (a ∷ xs) e = refl
 pub several_counted : {A : Type 0} (xs : List A) → Several ≡ count_of xs → true ≡ not (is_empty xs)
 several_counted [] e = cc
 several_counted (a ∷ xs) e = refl
-
--- ---- names
-
-module _ {X : Type 0} (f : X → ReadField) (xs : List X) (k : ℕ) (x : X) (h : k < length xs) (e : x ≡ get_or xs k x) where
-  abbrev repeated : Bool
-  repeated = list_any (λ g. bytes_eq (written_name (f x)) (written_name g)) (map f (drop (k + 1) xs))
-
-  names_from : repeats_name (map f (drop k xs)) ≡ (repeated || repeats_name (map f (drop (k + 1) xs)))
-  names_from =
-      let later : suc k ≡ k + 1 = omega arith in
-      ap (λ ys. repeats_name (map f ys)) (drop-cons xs k x h)
-      ∙ ap (λ y. repeats_name (map f (y ∷ drop (suc k) xs))) (sym e)
-      ∙ ap (λ m. list_any (λ g. bytes_eq (written_name (f x)) (written_name g)) (map f (drop m xs)) || repeats_name (map f (drop m xs))) later
-
-  pub name_turn : (w : Bool) → repeated ≡ false → repeats_name (map f (drop k xs)) ≡ w → repeats_name (map f (drop (k + 1) xs)) ≡ w
-  name_turn w q was = ap (λ b. b || repeats_name (map f (drop (k + 1) xs))) (sym q) ∙ sym names_from ∙ was
-
-  pub name_found : (w : Bool) → repeated ≡ true → repeats_name (map f (drop k xs)) ≡ w → true ≡ w
-  name_found w q was = ap (λ b. b || repeats_name (map f (drop (k + 1) xs))) (sym q) ∙ sym names_from ∙ was
-
-pub names_end : {X : Type 0} (f : X → ReadField) (xs : List X) (k : ℕ) (w : Bool) → length xs ≤ k → repeats_name (map f (drop k xs)) ≡ w → false ≡ w
-names_end f xs k w h was = ap (λ ys. repeats_name (map f ys)) (sym (drop_all k xs h)) ∙ was

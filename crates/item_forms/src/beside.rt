@@ -1,15 +1,16 @@
 //! Fields beside one another: names that come twice, and rests.
-ghost use Rattle.std.specs.Prelude.{◌≡◌, not, bytes_eq, map};
+ghost use Rattle.std.specs.Prelude.{◌≡◌, not, bytes_eq, map, IfOk};
 ghost use Rattle.std.specs.List.{list_any};
 ghost use Rattle.std.specs.BTreeSet.{keys};
 ghost use Rattle.attr_parts.specs.Names.{attr_name};
-ghost use Rattle.container_defs.specs.Forms.{field_lists, written_name, repeats_name, rests, is_unread, is_empty};
+ghost use Rattle.container_defs.specs.Forms.{field_lists, written_name, repeats_name, rests, is_unread, has_unread, is_empty};
 ghost use Rattle.container_readers.specs.Views.{field_view, variant_view, data_view};
 ghost use Rattle.item_forms.specs.Counts.{count_of, one_more};
 ghost use Rattle.item_forms.specs.ListTests.{list_test};
 
 use attr_parts::Name;
 use container_readers::{Data, Field, Variant};
+use std::alloc::{AllocError, Global};
 use std::collections::BTreeSet;
 
 /// How many there are.
@@ -35,27 +36,18 @@ fn name_of<'a>(field: &'a Field<'_>) -> &'a str
     field.attrs.name().serialize.value.as_str()
 }
 
-fn is_named_among(fields: &[Field<'_>], name: &str) -> bool
-    ensures { result ≡ list_any (λ g. bytes_eq name.now (written_name g)) (map field_view fields.now) }
+// The names of the fields before are kept in order, so that each name is looked up among them.
+#[tactic(auto, using(crate::proofs::Named::none_seen, crate::proofs::Named::new_seen, crate::proofs::Named::seen_before, crate::proofs::Named::all_seen))]
+fn repeats_name(alloc: Global, fields: &[Field<'_>]) -> Result<bool, AllocError>
+    ensures { IfOk result (λ r. r ≡ repeats_name (map field_view fields.now)) }
 {
+    let mut seen = BTreeSet::new(alloc);
     for field in fields {
-        if name == name_of(field) {
-            return true;
+        if !seen.insert(name_of(field))? {
+            return Ok(true);
         }
     }
-    false
-}
-
-#[tactic(auto, using(crate::proofs::Rests::name_turn, crate::proofs::Rests::name_found, crate::proofs::Rests::names_end))]
-fn repeats_name(fields: &[Field<'_>]) -> bool
-    ensures { result ≡ repeats_name (map field_view fields.now) }
-{
-    for i in 0..fields.len() {
-        if is_named_among(&fields[i + 1..], name_of(&fields[i])) {
-            return true;
-        }
-    }
-    false
+    Ok(false)
 }
 
 fn one_more(count: Count) -> Count
@@ -122,33 +114,49 @@ fn any_unread(fields: &[Field<'_>]) -> bool
     false
 }
 
+// Whether there is a rest, and a field that isn't read by the name by which it is written.
+fn has_unread(fields: &[Field<'_>]) -> bool
+    ensures { result ≡ has_unread (map field_view fields.now) }
+{
+    has_rest(fields) && any_unread(fields)
+}
+
 // What the fields answer.
-fn asked(test: ListTest, fields: &[Field<'_>]) -> bool
-    ensures { result ≡ list_test test (map field_view fields.now) }
+fn asked(alloc: Global, test: ListTest, fields: &[Field<'_>]) -> Result<bool, AllocError>
+    ensures { IfOk result (λ r. r ≡ list_test test (map field_view fields.now)) }
 {
     match test {
-        ListTest::RepeatsName => repeats_name(fields),
-        ListTest::Unread => has_rest(fields) && any_unread(fields),
+        ListTest::RepeatsName => {
+            let repeats = repeats_name(alloc, fields)?;
+            Ok(repeats)
+        }
+        ListTest::Unread => Ok(has_unread(fields)),
     }
 }
 
-fn any_in(test: ListTest, variants: &[Variant<'_>]) -> bool
-    ensures { result ≡ list_any (list_test test) (map (λ v. v.fields) (map variant_view variants.now)) }
+fn any_in(alloc: Global, test: ListTest, variants: &[Variant<'_>]) -> Result<bool, AllocError>
+    ensures { IfOk result (λ r. r ≡ list_any (list_test test) (map (λ v. v.fields) (map variant_view variants.now))) }
 {
     for variant in variants {
-        if asked(test, &variant.fields) {
-            return true;
+        if asked(alloc, test, &variant.fields)? {
+            return Ok(true);
         }
     }
-    false
+    Ok(false)
 }
 
-/// Whether the fields of the struct, or those of a variant, answer yes.
-pub fn any_fields(test: ListTest, body: &Data<'_>) -> bool
-    ensures { result ≡ list_any (list_test test) (field_lists (data_view body.now)) }
+/// Whether the fields of the struct, or those of a variant, answer yes. It fails where memory runs out: names are looked up in order.
+pub fn any_fields(alloc: Global, test: ListTest, body: &Data<'_>) -> Result<bool, AllocError>
+    ensures { IfOk result (λ r. r ≡ list_any (list_test test) (field_lists (data_view body.now))) }
 {
     match body {
-        Data::Enum(variants) => any_in(test, variants),
-        Data::Struct(_, fields) => asked(test, fields),
+        Data::Enum(variants) => {
+            let found = any_in(alloc, test, variants)?;
+            Ok(found)
+        }
+        Data::Struct(_, fields) => {
+            let found = asked(alloc, test, fields)?;
+            Ok(found)
+        }
     }
 }

@@ -118,7 +118,10 @@ fn has(
         Cause::Container(test) => Ok(asked_of(names, test, container)),
         Cause::Field(test) => Ok(any_field(names, test, &container.body)),
         Cause::Variant(test) => Ok(any_variant(test, &container.body)),
-        Cause::Fields(test) => Ok(any_fields(test, &container.body)),
+        Cause::Fields(test) => {
+            let beside = any_fields(alloc, test, &container.body)?;
+            Ok(beside)
+        }
         Cause::Rule(test) => {
             let rule = has_by_rules(alloc, conversions, test, container)?;
             Ok(rule)
