@@ -1,0 +1,6 @@
+pub mod Beside
+pub mod Notes
+pub mod OwnVariants
+pub mod Places
+pub mod PlainNulls
+pub mod TagTexts

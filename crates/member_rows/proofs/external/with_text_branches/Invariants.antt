@@ -1,0 +1,8 @@
+use Rattle.std.proofs.Common.{◌≡◌, ◌++◌, map, drop}
+use Rattle.row_types.specs.View.{note_view}
+use Rattle.member_rows.specs.Members.{member_view, ruled_branches}
+use Rattle.member_rows.proofs.external.with_text_branches.Given as goal
+
+abbrev pub invariant-loop-member : goal.invariant-loop-member
+invariant-loop-member l =
+    map note_view l.fn.notes.items ++ ruled_branches (map member_view l.members) ≡ map note_view l.notes.items ++ ruled_branches (map member_view (drop l.member-index l.members))
