@@ -1,0 +1,3 @@
+pub mod Decoding
+pub mod Lists
+pub mod Options
