@@ -1,0 +1,4 @@
+pub mod Keys
+pub mod Entered
+pub mod Seen
+pub mod Laws

@@ -1,0 +1,15 @@
+//! A space of entries with ids: equal entries share one, and an item is told from others by its name.
+#![tactic(auto)]
+
+mod calls;
+mod iter;
+mod key;
+pub mod laws;
+mod leaving;
+mod space;
+
+pub use entry_types::{
+    Content, FieldEntry, IntName, ItemEntry, ItemShape, State, TypeEntry, TypeId, VariantEntry,
+};
+pub use iter::TypeEntries;
+pub use space::EntrySpace;

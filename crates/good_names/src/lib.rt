@@ -1,0 +1,8 @@
+//! Names that are good, and names that are given one after another.
+#![tactic(auto)]
+
+mod given;
+mod kept;
+
+pub use given::GivenNames;
+pub use kept::is_good_name;
