@@ -10,7 +10,8 @@ use free_names::take;
 use std::alloc::{AllocError, Global};
 use std::collections::BTreeSet;
 
-/// The names that were given, those that are wanted beside them, and a number below which none is free.
+/// Names that are given by one prefix: those that were given, those that are wanted beside them, and a number
+/// below which none of the prefix is free. Of names by another prefix, and after an error, nothing is said.
 #[derive(Drop)]
 pub struct GivenNames {
     given: BTreeSet<String>,
