@@ -1,0 +1,10 @@
+//! The first row of the table of conversion that fits a schema, and what it finds.
+#![tactic(auto)]
+
+mod owners;
+mod runs;
+mod scalars;
+mod several;
+mod table;
+
+pub use table::finding;
