@@ -1,0 +1,7 @@
+pub mod Names
+pub mod Placed
+pub mod Formed
+pub mod Filled
+pub mod Leading
+pub mod Parts
+pub mod Laws
