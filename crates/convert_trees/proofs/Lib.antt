@@ -1,0 +1,12 @@
+pub mod Branches
+pub mod Causes
+pub mod Documents
+pub mod Ends
+pub mod Entering
+pub mod Here
+pub mod Listing
+pub mod Odd
+pub mod Parts
+pub mod Roots
+pub mod Telling
+pub mod Walked

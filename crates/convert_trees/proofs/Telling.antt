@@ -1,0 +1,155 @@
+-- What is told of nodes one after another.
+use Rattle.std.proofs.Common.{◌≡◌, ℕ, suc, ◌+◌, List, [], ◌∷◌, ◌++◌, false, refl, sym, ap, subst, ◌∙◌, append_assoc, append-nil}
+use Rattle.schema_defs.specs.Location.{Location}
+use Rattle.schema_defs.specs.Texts.{Relations}
+use Rattle.schema_defs.specs.Schema.{Schema, Document}
+use Rattle.convert_defs.specs.Row.{Note, row_parts}
+use Rattle.convert_defs.specs.Table.{finding_of, row_of, notes_at}
+use Rattle.convert_defs.specs.Convert.{Handed, Node, cut_node, cut_branches, placed, notes_in}
+use Rattle.convert_defs.specs.Faults.{finding_faults, faults_in, node_faults}
+use Rattle.convert_defs.specs.Faults as faults
+use Rattle.schema_tree.specs.Fault.{FaultD}
+use Rattle.convert_trees.specs.Nodes.{entry_at, nodes_at, parts_nodes}
+use Rattle.convert_trees.specs.Places.{IsWalkTo, TellsDepth, no_memory, walked}
+use Rattle.convert_trees.specs.Told as told
+use Rattle.convert_trees.specs.Told.{NoAnswer, RefusesBy, unanswered, by_cause, IsTold, TellsOf, of_depth, of_cause, Tells, Refuses, by_none, by_fault}
+
+module _ (r : Relations) (d : Document) (most : ℕ) where
+  -- ---- faults and notes of lists
+
+  faults_of_both : (xs bs : List Node) → faults_in r d most (xs ++ bs) ≡ faults_in r d most xs ++ faults_in r d most bs
+  faults_of_both [] bs = refl
+  faults_of_both (a ∷ xs) bs =
+      ap (λ cs. faults.placed r d most a.place (node_faults r d most a) ++ cs) (faults_of_both xs bs)
+      ∙ sym (append_assoc (faults.placed r d most a.place (node_faults r d most a)) (faults_in r d most xs) (faults_in r d most bs))
+
+  notes_of_both : (xs bs : List Node) → notes_in r d (xs ++ bs) ≡ notes_in r d xs ++ notes_in r d bs
+  notes_of_both [] bs = refl
+  notes_of_both (a ∷ xs) bs =
+      ap (λ ns. placed a.place (notes_at r d a.schema) ++ ns) (notes_of_both xs bs)
+      ∙ sym (append_assoc (placed a.place (notes_at r d a.schema)) (notes_in r d xs) (notes_in r d bs))
+
+  no_fault_of_both : (xs bs : List Node) → faults_in r d most xs ≡ [] → faults_in r d most bs ≡ [] → faults_in r d most (xs ++ bs) ≡ []
+  no_fault_of_both xs bs e h = faults_of_both xs bs ∙ ap (λ cs. cs ++ faults_in r d most bs) e ∙ h
+
+  -- ---- told
+
+  pub told_none : (ns : List Note) → IsTold r d most [] ns ns
+  told_none ns = record { faultless = refl; notes = sym (append-nil ns) }
+
+  pub told_both : (xs bs : List Node) (k l m : List Note) → IsTold r d most xs k l → IsTold r d most bs l m → IsTold r d most (xs ++ bs) k m
+  told_both xs bs k l m x y = record {
+    faultless = no_fault_of_both xs bs x.faultless y.faultless;
+    notes = y.notes ∙ ap (λ ns. ns ++ notes_in r d bs) x.notes ∙ append_assoc k (notes_in r d xs) (notes_in r d bs) ∙ ap (λ ns. k ++ ns) (sym (notes_of_both xs bs));
+  }
+
+  module _ (start : Location) (f : FaultD) where
+    tells_first : (xs bs : List Node) → Tells r d most start xs f → Tells r d most start (xs ++ bs) f
+    tells_first xs bs t = record {
+      before = t.before;
+      at = t.at;
+      after = t.after ++ bs;
+      split = ap (λ ts. ts ++ bs) t.split ∙ append_assoc t.before (t.at ∷ t.after) bs;
+      faultless = t.faultless;
+      told = t.told;
+    }
+
+    tells_second : (xs bs : List Node) → faults_in r d most xs ≡ [] → Tells r d most start bs f → Tells r d most start (xs ++ bs) f
+    tells_second xs bs e t = record {
+      before = xs ++ t.before;
+      at = t.at;
+      after = t.after;
+      split = ap (λ ts. xs ++ ts) t.split ∙ sym (append_assoc xs t.before (t.at ∷ t.after));
+      faultless = no_fault_of_both xs t.before e t.faultless;
+      told = t.told;
+    }
+
+    module _ (old new : ℕ) where
+      pub refuses_first : (xs bs : List Node) → Refuses r d most start old new xs f → Refuses r d most start old new (xs ++ bs) f
+      refuses_first xs bs (by_none h) = by_none h
+      refuses_first xs bs (by_fault t) = by_fault (tells_first xs bs t)
+
+      pub refuses_second : (xs bs : List Node) → faults_in r d most xs ≡ [] → Refuses r d most start old new bs f → Refuses r d most start old new (xs ++ bs) f
+      refuses_second xs bs e (by_none h) = by_none h
+      refuses_second xs bs e (by_fault t) = by_fault (tells_second xs bs e t)
+
+      -- a node alone that is too deep
+      pub refuses_deep : (l : Location) (s : Schema) (n : ℕ) → n ≡ most + 1 → TellsDepth start n l f → Refuses r d most start old new (cut_node l s ∷ []) f
+      refuses_deep l s n e (no_memory h) = by_none (told.no_memory h)
+      refuses_deep l s n e (walked w k h) =
+          by_fault (record {
+            before = [];
+            at = cut_node l s;
+            after = [];
+            split = refl;
+            faultless = refl;
+            told = of_depth w refl (subst (λ (n : ℕ). IsWalkTo start n w l) e k) h;
+          })
+
+  -- ---- a part of a list is passed
+
+  pub record Passed (whole rest : List Node) (old new : List Note) : Type 0 where
+    pub done : List Node
+    pub split : whole ≡ done ++ rest
+    pub told : IsTold r d most done old new
+
+  pub passed_none : (whole : List Node) (ns : List Note) → Passed whole whole ns ns
+  passed_none whole ns = record { done = []; split = refl; told = told_none ns }
+
+  pub passed_on : (whole xs bs : List Node) (k l m : List Note) → Passed whole (xs ++ bs) k l → IsTold r d most xs l m → Passed whole bs k m
+  passed_on whole xs bs k l m p t = record {
+    done = p.done ++ xs;
+    split = p.split ∙ sym (append_assoc p.done xs bs);
+    told = told_both p.done xs k l m p.told t;
+  }
+
+  pub passed_all : (whole : List Node) (k l : List Note) → Passed whole [] k l → IsTold r d most whole k l
+  passed_all whole k l p = subst (λ (ts : List Node). IsTold r d most ts k l) (sym (p.split ∙ append-nil p.done)) p.told
+
+  pub passed_end : (whole rest : List Node) (k l : List Note) → rest ≡ [] → Passed whole rest k l → IsTold r d most whole k l
+  passed_end whole rest k l e p = passed_all whole k l (subst (λ (ts : List Node). Passed whole ts k l) e p)
+
+  pub passed_refuses : (start : Location) (f : FaultD) (old new : ℕ) (whole xs bs : List Node) (k l : List Note)
+      → Passed whole (xs ++ bs) k l → Refuses r d most start old new xs f → Refuses r d most start old new whole f
+  passed_refuses start f old new whole xs bs k l p h =
+      subst (λ (ts : List Node). Refuses r d most start old new ts f) (sym p.split)
+      (refuses_second start f old new p.done (xs ++ bs) p.told.faultless (refuses_first start f old new xs bs h))
+
+  -- ---- one schema: itself, branches without a step, and its parts
+
+  module _ (n m : ℕ) (h : Handed) (l : Location) (s : Schema) where
+    pub own_refuses : (start : Location) (f : FaultD) (old new : ℕ) → RefusesBy l s (finding_of r d s) old new (finding_faults r d most (finding_of r d s)) f
+        → Refuses r d most start old new (nodes_at r d n (suc m) h l s) f
+    own_refuses start f old new (unanswered k) = by_none k
+    own_refuses start f old new (by_cause c cs e k) =
+        by_fault (record { before = []; at = _; after = _; split = refl; faultless = refl; told = of_cause c cs refl e k })
+
+    abbrev own_node : List Node
+    own_node = record { place = l; schema = s; entry = entry_at r d n (suc m) h s; is_deep = false } ∷ []
+
+    abbrev branch_nodes : List Node
+    branch_nodes = cut_branches n l (finding_of r d s).branches
+
+    abbrev part_list : List Node
+    part_list = parts_nodes r d n m h l (row_parts (row_of r d s))
+
+    own_faultless : finding_faults r d most (finding_of r d s) ≡ [] → faults_in r d most own_node ≡ []
+    own_faultless e = ap (λ cs. faults.placed r d most l cs ++ []) e
+
+    pub branch_refuses : (start : Location) (f : FaultD) (old new : ℕ) → finding_faults r d most (finding_of r d s) ≡ []
+        → Refuses r d most start old new branch_nodes f → Refuses r d most start old new (nodes_at r d n (suc m) h l s) f
+    branch_refuses start f old new e k =
+        refuses_second start f old new own_node (branch_nodes ++ part_list) (own_faultless e) (refuses_first start f old new branch_nodes part_list k)
+
+    pub parts_refuse : (start : Location) (f : FaultD) (old new : ℕ) → finding_faults r d most (finding_of r d s) ≡ [] → branch_nodes ≡ []
+        → Refuses r d most start old new part_list f → Refuses r d most start old new (nodes_at r d n (suc m) h l s) f
+    parts_refuse start f old new e b k =
+        refuses_second start f old new own_node (branch_nodes ++ part_list) (own_faultless e)
+        (refuses_second start f old new branch_nodes part_list (ap (faults_in r d most) b) k)
+
+    pub told_whole : (j k o : List Note) → finding_faults r d most (finding_of r d s) ≡ [] → branch_nodes ≡ [] → k ≡ j ++ placed l (notes_at r d s)
+        → IsTold r d most part_list k o → IsTold r d most (nodes_at r d n (suc m) h l s) j o
+    told_whole j k o e b g t =
+        told_both own_node (branch_nodes ++ part_list) j k o
+        (record { faultless = own_faultless e; notes = g ∙ ap (λ ns. j ++ ns) (sym (append-nil (placed l (notes_at r d s)))) })
+        (subst (λ (ts : List Node). IsTold r d most (ts ++ part_list) k o) (sym b) t)

@@ -1,0 +1,30 @@
+use Rattle.std.proofs.Common.{◌≡◌, ℕ, List, [], Some, ap, sym, subst, ◌∙◌}
+use Rattle.schema_tree.specs.Fault.{fault_view}
+use Rattle.convert_defs.specs.Row.{Row}
+use Rattle.convert_defs.specs.Faults.{row_faults}
+use Rattle.convert_defs.specs.Table.{reference_row}
+use Rattle.row_types.specs.Given.{source_view}
+use Rattle.row_types.specs.View.{row_view}
+use Rattle.convert_trees.specs.Places.{place_at}
+use Rattle.convert_trees.specs.Told.{RowRefuses}
+use Rattle.convert_trees.proofs.Causes.{row_merged, row_refused}
+use Rattle.convert_trees.proofs.Here.{if_err}
+use Rattle.convert_trees.proofs.own.check_row.Goals as goal
+
+pub returns-in_err-check_reference-in-Reference-clause-refused : goal.returns-in_err-check_reference-in-Reference-clause-refused
+returns-in_err-check_reference-in-Reference-clause-refused c =
+    let l = place_at c.args.scope.now.start.now c.args.trail.now.items in
+    let s = source_view c.args.source.now in
+    let f = c.in_err-check_reference-in-Reference.field-0.0 in
+    if_err c.from_residual.result f _ c.from_residual.ensures.1
+    (λ r. subst (λ (w : Row). RowRefuses l s w (fault_view f)) (ap (λ (q : List ℕ). reference_row (Some q)) c.as_str.ensures.value ∙ ap (row_view r) (sym c.in-Reference.is)) c.in_err-check_reference-in-Reference.ensures.refused)
+
+pub returns-in-Refused-clause-refused : goal.returns-in-Refused-clause-refused
+returns-in-Refused-clause-refused c = λ r. row_refused _ _ _ _ _ (ap (row_view r) c.in-Refused.is) c.refused.ensures
+
+pub returns-in-Merged-clause-refused : goal.returns-in-Merged-clause-refused
+returns-in-Merged-clause-refused c = λ r. row_merged _ _ _ _ _ (ap (row_view r) c.in-Merged.is) c.unmerged.ensures
+
+pub returns-in_ok-check_reference-in-Reference-clause-fine : goal.returns-in_ok-check_reference-in-Reference-clause-fine
+returns-in_ok-check_reference-in-Reference-clause-fine c =
+    λ r d n. subst (λ (w : Row). row_faults r d n w ≡ []) (ap (λ (q : List ℕ). reference_row (Some q)) c.as_str.ensures.value ∙ ap (row_view r) (sym c.in-Reference.is)) (c.in_ok-check_reference-in-Reference.ensures.fine r d n)

@@ -1,0 +1,80 @@
+use Rattle.std.proofs.Common.{ℕ, suc, List, [], ◌∷◌, map, refl, ap, ◌∙◌, subst, arith, rules}
+use Rattle.std.specs.Prelude.{Some}
+use Rattle.schema_defs.specs.Admits.{definition_word}
+use Rattle.schema_defs.specs.Laws.{NamesRise}
+use Rattle.schema_defs.specs.Texts.{Relations}
+use Rattle.schema_types.specs.View.{schema_view}
+use Rattle.schema_tree.specs.Document.{view as document_seen}
+use Rattle.schema_tree.specs.Fault.{fault_view}
+use Rattle.entry_trees.specs.View.{target_entry, tree_view, item_in}
+use Rattle.convert_defs.specs.Convert.{as_item, raw_entry, tree}
+use Rattle.note_order.specs.Notes.{notes_view}
+use Rattle.convert_trees.specs.Tables.{is_under_defs}
+use Rattle.convert_trees.specs.Told.{IsTold, Refuses}
+use Rattle.convert_trees.proofs.Here.{if_err, refuses_from}
+use Rattle.convert_trees.proofs.Documents.{Left, First, left_all, first_left, body_of, goes_on, stops, all_done, all_told}
+use Rattle.convert_trees.proofs.Roots.{want_all}
+use Rattle.convert_trees.proofs.table.definition_targets.Goals as goal
+
+pub loop-name-init : goal.loop-name-init
+loop-name-init g c = record {
+  left = left_all _ _ _ _ _ _ c.names-names.ensures.names (search rules);
+  rise = subst NamesRise c.names-names.ensures.names c.names-names.ensures.ordered;
+  keeps = refl;
+  counts = omega arith;
+}
+
+pub loop-name-preserved : goal.loop-name-preserved
+loop-name-preserved g c =
+    let r = g.T.Texts.relations c.args.texts.now in
+    let d = document_seen c.args.document.now in
+    let most = c.args.depth in
+    let inv = c.loop-name.invariant in
+    let n = c.in-Some.name.now in
+    let names = c.next.new.self in
+    let targets = map target_entry c.loop-name.targets.items in
+    let s = schema_view c.in_ok-schema.schema.now in
+    let f : First r d most n names targets (notes_view c.args.notes.now.items) (notes_view c.loop-name.notes.items) =
+    first_left r d most n names targets _ _ (subst (λ (ns : List (List ℕ)). Left r d most ns targets (notes_view c.args.notes.now.items) (notes_view c.loop-name.notes.items)) c.in-Some.ensures inv.left) in
+    record {
+      left = goes_on r d most inv.rise n names targets (notes_view c.args.notes.now.items) (notes_view c.loop-name.notes.items) f s (item_in (tree_view c.in_ok-item.item)) (notes_view c.definition_item.new.notes.items)
+          (map target_entry c.push_definition.new.targets.items)
+          (body_of r d most inv.rise n names targets _ _ f s c.in_ok-schema.ensures.body)
+          (c.in_ok-item.ensures.item ∙ ap (λ r. as_item n (raw_entry r d (suc most) (Some n) s)) inv.keeps)
+          c.in_ok-push_definition.ensures.targets
+          (subst (λ (r : Relations). IsTold r d most (tree r d (suc most) (Some n) (definition_word (is_under_defs d n) ∷ n ∷ []) s) (notes_view c.loop-name.notes.items) (notes_view c.definition_item.new.notes.items)) inv.keeps c.in_ok-item.ensures.told);
+      rise = inv.rise;
+      keeps = c.in_ok-item.ensures.keeps ∙ inv.keeps;
+      counts = omega (arith, inv.counts, c.in_ok-item.ensures.counts);
+    }
+
+pub returns-clause-targets : goal.returns-clause-targets
+returns-clause-targets g c = all_done _ _ _ _ _ _ _ (search rules) c.loop-name.invariant.left
+
+pub returns-clause-told : goal.returns-clause-told
+returns-clause-told g c = all_told _ _ _ _ _ _ _ (search rules) c.loop-name.invariant.left
+
+pub returns-in_err-schema-clause-refused : goal.returns-in_err-schema-clause-refused
+returns-in_err-schema-clause-refused g c =
+    if_err c.from_residual.result c.in_err-schema.field-0.0 _ c.from_residual.ensures.1 (want_all _ _ _ _ _ _ _ c.in_err-schema.ensures.memory)
+
+pub returns-in_err-item-clause-refused : goal.returns-in_err-item-clause-refused
+returns-in_err-item-clause-refused g c =
+    let r = g.T.Texts.relations c.args.texts.now in
+    let d = document_seen c.args.document.now in
+    let most = c.args.depth in
+    let inv = c.loop-name.invariant in
+    let n = c.in-Some.name.now in
+    let names = c.next.new.self in
+    let targets = map target_entry c.loop-name.targets.items in
+    let s = schema_view c.in_ok-schema.schema.now in
+    let f : First r d most n names targets (notes_view c.args.notes.now.items) (notes_view c.loop-name.notes.items) =
+    first_left r d most n names targets _ _ (subst (λ (ns : List (List ℕ)). Left r d most ns targets (notes_view c.args.notes.now.items) (notes_view c.loop-name.notes.items)) c.in-Some.ensures inv.left) in
+    if_err c.from_residual-in_err-item.result c.in_err-item.field-0.0 _ c.from_residual-in_err-item.ensures.1
+    (stops r d most inv.rise n names targets _ _ f s _ _ _ (body_of r d most inv.rise n names targets _ _ f s c.in_ok-schema.ensures.body)
+    (refuses_from _ _ _ _ _ _ _ _ _ inv.counts
+    (subst (λ (r : Relations). Refuses r d most (definition_word (is_under_defs d n) ∷ n ∷ []) (g.T.Texts.faults c.loop-name.texts) (g.T.Texts.faults c.definition_item.new.texts) (tree r d (suc most) (Some n) (definition_word (is_under_defs d n) ∷ n ∷ []) s) (fault_view c.in_err-item.field-0.0)) inv.keeps c.in_err-item.ensures.refused)))
+
+pub returns-in_err-push_definition-clause-refused : goal.returns-in_err-push_definition-clause-refused
+returns-in_err-push_definition-clause-refused g c =
+    if_err c.from_residual-in_err-push_definition.result c.in_err-push_definition.field-0.0 _ c.from_residual-in_err-push_definition.ensures.1 (want_all _ _ _ _ _ _ _ c.in_err-push_definition.ensures.memory)

@@ -1,0 +1,5 @@
+pub mod Listed
+pub mod Nodes
+pub mod Places
+pub mod Tables
+pub mod Told

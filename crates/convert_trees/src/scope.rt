@@ -1,0 +1,13 @@
+//! What a conversion goes by.
+use schema_tree::Document;
+use schema_types::Location;
+use std::alloc::Global;
+
+/// The document, the greatest number of steps and of places, and where the tree begins.
+#[derive(Clone, Copy)]
+pub struct Scope<'d, 's> {
+    pub alloc: Global,
+    pub document: &'d Document,
+    pub depth: u32,
+    pub start: &'s Location,
+}

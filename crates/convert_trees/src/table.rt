@@ -1,0 +1,306 @@
+//! The table of a document.
+ghost use Rattle.std.specs.Prelude.{◌≡◌, ◌≤◌, ◌++◌, suc, [], ◌∷◌, true, Some, IfErr, IfOk, OnOk, map, option_map};
+ghost use Rattle.schema_defs.specs.Admits.{defined, definition_word};
+ghost use Rattle.schema_types.specs.View.{schema_view};
+ghost use Rattle.schema_tree.specs.Document.{view as document_seen};
+ghost use Rattle.schema_tree.specs.Fault.{fault_view, memory};
+ghost use Rattle.entry_trees.specs.View.{item_in, table_view, target_entry, tree_view};
+ghost use Rattle.entry_defs.specs.Entry.{definition, the_root};
+ghost use Rattle.convert_defs.specs.Convert.{as_item as as_item_of, definition_target, definition_trees, document_tree, notes_in, raw_entry, root_entry, root_name as root_name_of, root_tree as root_tree_of, table_of as table_of_document, tree as tree_of};
+ghost use Rattle.convert_defs.specs.Faults.{faults_of};
+ghost use Rattle.convert_defs.specs.RootReference.{refers_to_root as refers_to_root_of};
+ghost use Rattle.note_order.specs.Notes.{notes_view};
+ghost use Rattle.convert_trees.specs.Tables.{is_under_defs, root_targets_of, root_use_of};
+ghost use Rattle.convert_trees.specs.Told.{IsTold, Refuses, RefusesAll};
+
+use crate::convert::{MOST_MADE, convert};
+use crate::names::root_name;
+use crate::scope::Scope;
+use entry_trees::{Atom, Target, Tree, TreeTable};
+use note_order::PlacedNote;
+use root_references::refers_to_root;
+use row_types::Source;
+use schema_tree::{Document, Fault, Schema, Texts};
+use schema_types::Location;
+use std::alloc::{AllocError, Global};
+use tree_parts::{as_item, atom};
+
+/// A document's table, and what conversion doesn't keep, in the order of conversion.
+#[derive(Drop)]
+pub struct Converted<'d> {
+    pub table: TreeTable<'d>,
+    pub notes: Vec<PlacedNote>,
+}
+
+/// The table of a document, where walks may have so many steps, and lists as many places.
+pub fn table_of<'d, T: Texts>(
+    alloc: Global,
+    document: &'d Document,
+    depth: u32,
+    texts: &mut T,
+) -> Result<Converted<'d>, Fault>
+    ensures table { IfOk result (λ c. table_view c.table ≡ table_of_document (T.relations texts.old) (document_seen document.now) depth) }
+    ensures faultless { OnOk result (faults_of (T.relations texts.old) (document_seen document.now) depth ≡ []) }
+    ensures notes { IfOk result (λ c. notes_view c.notes.items ≡ notes_in (T.relations texts.old) (document_seen document.now) (document_tree (T.relations texts.old) (document_seen document.now) depth)) }
+    ensures refused { IfErr result (λ f. RefusesAll (T.relations texts.old) (document_seen document.now) depth (T.faults texts.old) (T.faults texts.new) (document_tree (T.relations texts.old) (document_seen document.now) depth) (fault_view f)) }
+    ensures keeps { T.relations texts.new ≡ T.relations texts.old }
+    ensures counts { T.faults texts.old ≤ T.faults texts.new }
+{
+    let mut notes = Vec::new(alloc);
+    let targets = definition_targets(alloc, document, depth, texts, &mut notes)?;
+    let root = root_tree(alloc, document, depth, texts, &mut notes)?;
+    let table = rooted(alloc, document, targets, root)?;
+    Ok(Converted { table, notes })
+}
+
+fn keyword_of(under_defs: bool) -> &'static str
+    ensures { result.now ≡ definition_word under_defs }
+{
+    if under_defs { "$defs" } else { "definitions" }
+}
+
+fn stands_under_defs(alloc: Global, document: &Document, name: &str) -> Result<bool, AllocError>
+    ensures { IfOk result (λ b. b ≡ is_under_defs (document_seen document.now) name.now) }
+{
+    let keyword = Location::root(alloc).child(alloc, "$defs")?;
+    let place = keyword.child(alloc, name)?;
+    Ok(document.schema_at(&place).is_some())
+}
+
+// Where the definition of a name stands.
+fn definition_place(alloc: Global, document: &Document, name: &str) -> Result<Location, AllocError>
+    ensures { IfOk result (λ l. l ≡ definition_word (is_under_defs (document_seen document.now) name.now) ∷ name.now ∷ []) }
+{
+    let keyword = keyword_of(stands_under_defs(alloc, document, name)?);
+    let owner = Location::root(alloc).child(alloc, keyword)?;
+    let place = owner.child(alloc, name)?;
+    Ok(place)
+}
+
+fn definition_start(alloc: Global, document: &Document, name: &str) -> Result<Location, Fault>
+    ensures place { IfOk result (λ l. l ≡ definition_word (is_under_defs (document_seen document.now) name.now) ∷ name.now ∷ []) }
+    ensures memory { IfErr result (λ f. fault_view f ≡ memory) }
+{
+    match definition_place(alloc, document, name) {
+        Ok(place) => Ok(place),
+        Err(_) => Err(Fault::Memory),
+    }
+}
+
+fn item_of<'d>(alloc: Global, name: &'d str, tree: Tree<'d>) -> Result<Tree<'d>, Fault>
+    ensures item { IfOk result (λ t. item_in (tree_view t) ≡ as_item_of name.now (tree_view tree.entry)) }
+    ensures memory { IfErr result (λ f. fault_view f ≡ memory) }
+{
+    match as_item(alloc, name, tree) {
+        Ok(tree) => Ok(tree),
+        Err(_) => Err(Fault::Memory),
+    }
+}
+
+fn definition_item<'d, T: Texts>(
+    alloc: Global,
+    document: &'d Document,
+    depth: u32,
+    texts: &mut T,
+    notes: &mut Vec<PlacedNote>,
+    name: &'d str,
+    schema: &'d Schema,
+) -> Result<Tree<'d>, Fault>
+    ensures item { IfOk result (λ t. item_in (tree_view t) ≡ as_item_of name.now (raw_entry (T.relations texts.old) (document_seen document.now) (suc depth) (Some name.now) (schema_view schema.now))) }
+    ensures told { OnOk result (IsTold (T.relations texts.old) (document_seen document.now) depth (tree_of (T.relations texts.old) (document_seen document.now) (suc depth) (Some name.now) (definition_word (is_under_defs (document_seen document.now) name.now) ∷ name.now ∷ []) (schema_view schema.now)) (notes_view notes.old.items) (notes_view notes.new.items)) }
+    ensures refused { IfErr result (λ f. Refuses (T.relations texts.old) (document_seen document.now) depth (definition_word (is_under_defs (document_seen document.now) name.now) ∷ name.now ∷ []) (T.faults texts.old) (T.faults texts.new) (tree_of (T.relations texts.old) (document_seen document.now) (suc depth) (Some name.now) (definition_word (is_under_defs (document_seen document.now) name.now) ∷ name.now ∷ []) (schema_view schema.now)) (fault_view f)) }
+    ensures keeps { T.relations texts.new ≡ T.relations texts.old }
+    ensures counts { T.faults texts.old ≤ T.faults texts.new }
+{
+    let start = definition_start(alloc, document, name)?;
+    let scope = Scope {
+        alloc,
+        document,
+        depth,
+        start: &start,
+    };
+    let trail = Vec::new(alloc);
+    let source = Source::Written(schema);
+    let tree = convert(
+        &scope,
+        texts,
+        notes,
+        &trail,
+        depth,
+        MOST_MADE,
+        Some(name),
+        &source,
+    )?;
+    let item = item_of(alloc, name, tree)?;
+    Ok(item)
+}
+
+fn definition_targets<'d, T: Texts>(
+    alloc: Global,
+    document: &'d Document,
+    depth: u32,
+    texts: &mut T,
+    notes: &mut Vec<PlacedNote>,
+) -> Result<Vec<(Target, Tree<'d>)>, Fault>
+    ensures targets { IfOk result (λ ts. map target_entry ts.items ≡ map (definition_target (T.relations texts.old) (document_seen document.now) depth) (document_seen document.now).definitions) }
+    ensures told { OnOk result (IsTold (T.relations texts.old) (document_seen document.now) depth (definition_trees (T.relations texts.old) (document_seen document.now) depth (document_seen document.now).definitions) (notes_view notes.old.items) (notes_view notes.new.items)) }
+    ensures refused { IfErr result (λ f. RefusesAll (T.relations texts.old) (document_seen document.now) depth (T.faults texts.old) (T.faults texts.new) (definition_trees (T.relations texts.old) (document_seen document.now) depth (document_seen document.now).definitions) (fault_view f)) }
+    ensures keeps { T.relations texts.new ≡ T.relations texts.old }
+    ensures counts { T.faults texts.old ≤ T.faults texts.new }
+{
+    let mut targets = Vec::new(alloc);
+    let mut names = document.names();
+    while let Some(name) = names.next() {
+        let schema = body_of(document, name)?;
+        let item = definition_item(alloc, document, depth, texts, notes, name, schema)?;
+        push_definition(alloc, &mut targets, name, item)?;
+    }
+    Ok(targets)
+}
+
+// What is defined by a name; each name of the document has a definition.
+fn body_of<'d>(document: &'d Document, name: &str) -> Result<&'d Schema, Fault>
+    ensures body { IfOk result (λ s. Some (schema_view s.now) ≡ option_map (λ e. e.body) (defined name.now (document_seen document.now).definitions)) }
+    ensures memory { IfErr result (λ f. fault_view f ≡ memory) }
+{
+    match document.definition(name) {
+        Some(schema) => Ok(schema),
+        None => Err(Fault::Memory),
+    }
+}
+
+fn push_definition<'d>(
+    alloc: Global,
+    targets: &mut Vec<(Target, Tree<'d>)>,
+    name: &str,
+    item: Tree<'d>,
+) -> Result<(), Fault>
+    ensures targets { OnOk result (map target_entry targets.new.items ≡ map target_entry targets.old.items ++ record { target = definition name.now; led_to = item_in (tree_view item.entry) } ∷ []) }
+    ensures memory { IfErr result (λ f. fault_view f ≡ memory) }
+{
+    let Ok(key) = String::from_str(alloc, name) else {
+        return Err(Fault::Memory);
+    };
+    match targets.push((Target::Definition(key), item)) {
+        Ok(_) => Ok(()),
+        Err(_) => Err(Fault::Memory),
+    }
+}
+
+fn root_tree<'d, T: Texts>(
+    alloc: Global,
+    document: &'d Document,
+    depth: u32,
+    texts: &mut T,
+    notes: &mut Vec<PlacedNote>,
+) -> Result<Tree<'d>, Fault>
+    ensures entry { IfOk result (λ t. tree_view t ≡ root_entry (T.relations texts.old) (document_seen document.now) depth) }
+    ensures told { OnOk result (IsTold (T.relations texts.old) (document_seen document.now) depth (root_tree_of (T.relations texts.old) (document_seen document.now) depth) (notes_view notes.old.items) (notes_view notes.new.items)) }
+    ensures refused { IfErr result (λ f. Refuses (T.relations texts.old) (document_seen document.now) depth [] (T.faults texts.old) (T.faults texts.new) (root_tree_of (T.relations texts.old) (document_seen document.now) depth) (fault_view f)) }
+    ensures keeps { T.relations texts.new ≡ T.relations texts.old }
+    ensures counts { T.faults texts.old ≤ T.faults texts.new }
+{
+    let start = Location::root(alloc);
+    let scope = Scope {
+        alloc,
+        document,
+        depth,
+        start: &start,
+    };
+    let trail = Vec::new(alloc);
+    let schema = document.root();
+    let source = Source::Written(schema);
+    let name = root_name(schema);
+    let tree = convert(
+        &scope,
+        texts,
+        notes,
+        &trail,
+        depth,
+        MOST_MADE,
+        Some(name),
+        &source,
+    )?;
+    Ok(tree)
+}
+
+fn one_tree<'d>(alloc: Global, tree: Tree<'d>) -> Result<Vec<Tree<'d>>, AllocError>
+    ensures { IfOk result (λ v. map tree_view v.items ≡ tree_view tree.entry ∷ []) }
+{
+    let mut trees = Vec::new(alloc);
+    trees.push(tree)?;
+    Ok(trees)
+}
+
+fn with_root_item<'d>(
+    targets: Vec<(Target, Tree<'d>)>,
+    item: Tree<'d>,
+) -> Result<Vec<(Target, Tree<'d>)>, AllocError>
+    ensures { IfOk result (λ v. map target_entry v.items ≡ map target_entry targets.entry.items ++ record { target = the_root; led_to = item_in (tree_view item.entry) } ∷ []) }
+{
+    let mut targets = targets;
+    targets.push((Target::Root, item))?;
+    Ok(targets)
+}
+
+// A root that references lead to is an item, and is used by a reference.
+fn with_used_root<'d>(
+    alloc: Global,
+    name: &'d str,
+    targets: Vec<(Target, Tree<'d>)>,
+    root: Tree<'d>,
+) -> Result<TreeTable<'d>, AllocError>
+    ensures { IfOk result (λ t. table_view t ≡ record { targets = map target_entry targets.entry.items ++ root_targets_of true name.now (tree_view root.entry); trees = root_use_of true (tree_view root.entry) ∷ [] }) }
+{
+    let item = as_item(alloc, name, root)?;
+    let all = with_root_item(targets, item)?;
+    let reference = atom(Atom::Reference(Target::Root));
+    let trees = one_tree(alloc, reference)?;
+    Ok(TreeTable {
+        targets: all,
+        trees,
+    })
+}
+
+fn with_plain_root<'d>(
+    alloc: Global,
+    targets: Vec<(Target, Tree<'d>)>,
+    root: Tree<'d>,
+) -> Result<TreeTable<'d>, AllocError>
+    ensures { IfOk result (λ t. table_view t ≡ record { targets = map target_entry targets.entry.items; trees = tree_view root.entry ∷ [] }) }
+{
+    let trees = one_tree(alloc, root)?;
+    Ok(TreeTable { targets, trees })
+}
+
+fn with_root<'d>(
+    alloc: Global,
+    document: &'d Document,
+    targets: Vec<(Target, Tree<'d>)>,
+    root: Tree<'d>,
+) -> Result<TreeTable<'d>, AllocError>
+    ensures { IfOk result (λ t. table_view t ≡ record { targets = map target_entry targets.entry.items ++ root_targets_of (refers_to_root_of (document_seen document.now)) (root_name_of (document_seen document.now).root) (tree_view root.entry); trees = root_use_of (refers_to_root_of (document_seen document.now)) (tree_view root.entry) ∷ [] }) }
+{
+    if refers_to_root(document) {
+        let name = root_name(document.root());
+        let used = with_used_root(alloc, name, targets, root)?;
+        return Ok(used);
+    }
+    let plain = with_plain_root(alloc, targets, root)?;
+    Ok(plain)
+}
+
+fn rooted<'d>(
+    alloc: Global,
+    document: &'d Document,
+    targets: Vec<(Target, Tree<'d>)>,
+    root: Tree<'d>,
+) -> Result<TreeTable<'d>, Fault>
+    ensures table { IfOk result (λ t. table_view t ≡ record { targets = map target_entry targets.entry.items ++ root_targets_of (refers_to_root_of (document_seen document.now)) (root_name_of (document_seen document.now).root) (tree_view root.entry); trees = root_use_of (refers_to_root_of (document_seen document.now)) (tree_view root.entry) ∷ [] }) }
+    ensures memory { IfErr result (λ f. fault_view f ≡ memory) }
+{
+    match with_root(alloc, document, targets, root) {
+        Ok(table) => Ok(table),
+        Err(_) => Err(Fault::Memory),
+    }
+}
