@@ -1,0 +1,65 @@
+-- What is told as the first fault is one, and what conversion refuses is refused so.
+use Rattle.std.proofs.Common.{◌≡◌, inl, inr, ℕ, List, [], ◌∷◌, ◌++◌, Bool, true, false, cond, refl, sym, ap, ◌∙◌}
+use Rattle.schema_defs.specs.Location.{Location}
+use Rattle.schema_defs.specs.Texts.{Relations}
+use Rattle.schema_defs.specs.Schema.{Document}
+use Rattle.schema_tree.specs.Fault.{FaultD, memory, unsupported}
+use Rattle.schema_tree.specs.declared.fault.UnsupportedKind.TheVariants.{NotYet}
+use Rattle.convert_defs.specs.Row.{Cause, too_deep}
+use Rattle.convert_defs.specs.Table.{finding_of}
+use Rattle.convert_defs.specs.Convert.{Node, document_tree}
+use Rattle.convert_defs.specs.Faults.{finding_faults, node_faults, placed, faults_in, faults_of}
+use Rattle.convert_trees.specs.Told.{no_memory, failed, TellsOf, of_depth, of_cause, RefusesAll, by_want, by_node}
+use Rattle.typify_convert.specs.Emitted.{emission_of}
+use Rattle.typify_convert.specs.Stated.{states_nothing}
+use Rattle.typify_convert.specs.Refused.{IsFirst, IsRefusal}
+
+-- ---- lists
+
+none_behind : {A : Type 0} (xs ys : List A) → xs ++ ys ≡ [] → ys ≡ []
+none_behind [] ys h = h
+none_behind (x ∷ xs) ys h = cc
+
+none_before : {A : Type 0} (xs ys : List A) → xs ++ ys ≡ [] → xs ≡ []
+none_before [] ys h = refl
+none_before (x ∷ xs) ys h = cc
+
+none_listed : {A : Type 0} (x : A) (xs ys : List A) → ys ≡ [] → ys ≡ x ∷ xs → ⊥
+none_listed x xs ys h e = absurd (cc)
+
+module _ (r : Relations) (d : Document) (depth : ℕ) where
+  none_placed : (l : Location) (cs : List Cause) → placed r d depth l cs ≡ [] → cs ≡ []
+  none_placed l [] h = refl
+  none_placed l (c ∷ cs) h = cc
+
+  none_at : (before : List Node) (at : Node) (after : List Node) → faults_in r d depth (before ++ at ∷ after) ≡ [] → node_faults r d depth at ≡ []
+  none_at [] at after h = none_placed at.place (node_faults r d depth at) (none_before (placed r d depth at.place (node_faults r d depth at)) (faults_in r d depth after) h)
+  none_at (b ∷ bs) at after h = none_at bs at after (none_behind (placed r d depth b.place (node_faults r d depth b)) (faults_in r d depth (bs ++ at ∷ after)) h)
+
+  deep_faults : (at : Node) → at.is_deep ≡ true → node_faults r d depth at ≡ too_deep ∷ []
+  deep_faults at e = ap (λ (b : Bool). cond b (too_deep ∷ []) (finding_faults r d depth (finding_of r d at.schema))) e
+
+  other_faults : (at : Node) → at.is_deep ≡ false → node_faults r d depth at ≡ finding_faults r d depth (finding_of r d at.schema)
+  other_faults at e = ap (λ (b : Bool). cond b (too_deep ∷ []) (finding_faults r d depth (finding_of r d at.schema))) e
+
+  told_is_one : (start : Location) (at : Node) (f : FaultD) → TellsOf r d depth start at f → node_faults r d depth at ≡ [] → ⊥
+  told_is_one start at f (of_depth walk e w t) h = none_listed too_deep [] (node_faults r d depth at) h (deep_faults at e)
+  told_is_one start at f (of_cause c cs e x t) h = none_listed c cs (node_faults r d depth at) h (other_faults at e ∙ x)
+
+  pub first_is_a_fault : (f : FaultD) → IsFirst r d depth f → faults_of r d depth ≡ [] → ⊥
+  first_is_a_fault f h e =
+      let t = h.2 in
+      told_is_one h.0 t.at f t.told (none_at t.before t.at t.after (ap (faults_in r d depth) (sym t.split) ∙ e))
+
+  -- ---- refusals
+
+  pub refused_all : (old new : ℕ) (f : FaultD) → RefusesAll r d depth old new (document_tree r d depth) f → IsRefusal r d depth old new f
+  refused_all old new f (by_want (no_memory e)) = inl e
+  refused_all old new f (by_want (failed m e x)) = inr (inl (m, e, x))
+  refused_all old new f (by_node start s t) = inr (inr (inl (start, s, t)))
+
+  pub without_memory : (old new : ℕ) (f : FaultD) → f ≡ memory → IsRefusal r d depth old new f
+  without_memory old new f e = inl e
+
+  pub stated_refused : (old new : ℕ) (f : FaultD) → faults_of r d depth ≡ [] → states_nothing (emission_of r d depth).conversions ≡ false → f ≡ unsupported [] NotYet → IsRefusal r d depth old new f
+  stated_refused old new f n s e = inr (inr (inr (n, s, e)))

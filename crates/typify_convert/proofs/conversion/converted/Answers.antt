@@ -1,0 +1,44 @@
+use Rattle.std.proofs.Common.{sym, ap, subst, ◌∙◌}
+use Rattle.entry_defs.specs.Sound.{IsSound}
+use Rattle.entry_defs.specs.Table.{Table, root_of}
+use Rattle.naming_defs.specs.Names.{named_table}
+use Rattle.naming_defs.specs.Good.{is_good_name}
+use Rattle.emit_defs.specs.Emission.{emission}
+use Rattle.schema_tree.specs.Document.{view as document_seen}
+use Rattle.space_trees.specs.Formed.{IsFormed}
+use Rattle.emit_defs.specs.Emission.{Emission}
+use Rattle.convert_defs.specs.Row.{Note}
+use Rattle.convert_defs.specs.Order.{ordered}
+use Rattle.std.proofs.Common.{List, map}
+use Rattle.typify_convert.specs.Note.{note_of}
+use Rattle.typify_convert.specs.Emitted.{emitted_view}
+use Rattle.typify_convert.specs.Stated.{states_nothing}
+use Rattle.typify_convert.specs.declared.conversion.Emitted.{Emitted}
+use Rattle.typify_convert.proofs.conversion.converted.Goals as goal
+
+pub from_table-requires-clause-sound : goal.from_table-requires-clause-sound
+from_table-requires-clause-sound g c =
+    let r = g.T.Texts.relations c.args.texts.now in
+    subst (λ (t : Table). IsSound (named_table is_good_name t)) (sym c.in_ok-converted.ensures.table)
+    (c.read_documents_are_planned.ensures r (document_seen c.args.document.now) c.args.depth c.requires).sound
+
+pub from_table-requires-clause-formed : goal.from_table-requires-clause-formed
+from_table-requires-clause-formed g c =
+    let r = g.T.Texts.relations c.args.texts.now in
+    subst (λ (t : Table). IsFormed (named_table is_good_name t)) (sym c.in_ok-converted.ensures.table)
+    (c.plans_are_formed.ensures r (document_seen c.args.document.now) c.args.depth)
+
+pub returns-in-Ok-clause-emission : goal.returns-in-Ok-clause-emission
+returns-in-Ok-clause-emission g c =
+    ap emitted_view c.in_ok-kept-in-Ok.ensures.same ∙ c.in-Ok.ensures.emission
+    ∙ ap (λ (t : Table). emission (named_table is_good_name t) (root_of (named_table is_good_name t))) c.in_ok-converted.ensures.table
+
+pub returns-in-Ok-clause-notes : goal.returns-in-Ok-clause-notes
+returns-in-Ok-clause-notes g c =
+    ap (λ (e : Emitted). e.notes.items) c.in_ok-kept-in-Ok.ensures.same ∙ c.in-Ok.ensures.notes
+    ∙ ap (λ (ns : List Note). map note_of (ordered ns)) c.in_ok-converted.ensures.notes
+
+pub returns-in-Ok-clause-built : goal.returns-in-Ok-clause-built
+returns-in-Ok-clause-built g c =
+    sym (ap (λ (k : Emission). states_nothing k.conversions) (c.in-Ok.ensures.emission ∙ ap (λ (t : Table). emission (named_table is_good_name t) (root_of (named_table is_good_name t))) c.in_ok-converted.ensures.table))
+    ∙ c.in_ok-kept-in-Ok.ensures.none

@@ -1,0 +1,4 @@
+pub mod Note
+pub mod Emitted
+pub mod Stated
+pub mod Refused

@@ -1,0 +1,131 @@
+//! A document converted.
+ghost use Rattle.std.specs.Prelude.{◌≡◌, ◌≤◌, [], true, false, IfOk, IfErr, OnOk, OnErr, map};
+ghost use Rattle.schema_tree.specs.Conversions.{conversions_view};
+ghost use Rattle.schema_tree.specs.Document.{view as document_seen};
+ghost use Rattle.schema_tree.specs.Fault.{fault_view, unsupported as unsupported_at};
+ghost use Rattle.schema_tree.specs.declared.fault.UnsupportedKind.TheVariants.{NotYet};
+ghost use Rattle.entry_defs.specs.Sound.{IsSound};
+ghost use Rattle.entry_defs.specs.Table.{root_of};
+ghost use Rattle.naming_defs.specs.Names.{named_table as named_table_of};
+ghost use Rattle.naming_defs.specs.Good.{is_good_name};
+ghost use Rattle.emit_defs.specs.Emission.{emission as emission_by};
+ghost use Rattle.convert_defs.specs.Convert.{notes_of};
+ghost use Rattle.convert_defs.specs.Faults.{faults_of};
+ghost use Rattle.convert_defs.specs.Order.{ordered};
+ghost use Rattle.document_laws.specs.Laws.{WasRead};
+ghost use Rattle.entry_trees.specs.View.{table_view};
+ghost use Rattle.note_order.specs.Notes.{notes_view};
+ghost use Rattle.space_trees.specs.Formed.{IsFormed};
+ghost use Rattle.typify_convert.specs.Note.{note_of};
+ghost use Rattle.typify_convert.specs.Emitted.{emission_of, emitted_view};
+ghost use Rattle.typify_convert.specs.Stated.{states_nothing as states_nothing_of};
+ghost use Rattle.typify_convert.specs.Refused.{IsRefusal};
+
+use crate::checking::states_nothing;
+use crate::note::Note;
+use crate::noting::notes_of;
+use convert_trees::table_of;
+use document_laws::laws::read_documents_are_planned;
+use entry_trees::TreeTable;
+use note_order::{PlacedNote, ordered_notes};
+use schema_tree::{Conversions, Document, Fault, Location, Texts, UnsupportedKind};
+use space_emission::emit;
+use space_trees::laws::plans_are_formed;
+use space_trees::space_of;
+use std::alloc::{AllocError, Global};
+use syntax_trees::{DeriveInput, Ty};
+use tree_names::named_table;
+
+/// What is emitted for a document: the items, the table of what their attributes don't say, the type of the root, and the notes.
+#[derive(Drop)]
+pub struct Emitted {
+    pub items: Vec<DeriveInput>,
+    pub table: Conversions,
+    pub root: Ty,
+    pub notes: Vec<Note>,
+}
+
+// The items of a table that gets names, and the notes in their order.
+fn from_table(
+    alloc: Global,
+    table: &TreeTable<'_>,
+    notes: Vec<PlacedNote>,
+) -> Result<Emitted, AllocError>
+    requires sound { IsSound (named_table_of is_good_name (table_view table.now)) }
+    requires formed { IsFormed (named_table_of is_good_name (table_view table.now)) }
+    ensures emission { IfOk result (λ e. emitted_view e ≡ emission_by (named_table_of is_good_name (table_view table.now)) (root_of (named_table_of is_good_name (table_view table.now)))) }
+    ensures notes { IfOk result (λ e. e.notes.items ≡ map note_of (ordered (notes_view notes.items))) }
+{
+    let named = named_table(alloc, table)?;
+    let planned = space_of(alloc, &named)?;
+    let root = planned.root;
+    let entries = planned.space.into_entries()?;
+    let emission = emit(alloc, &entries, root)?;
+    let sorted = ordered_notes(alloc, notes)?;
+    let told = notes_of(alloc, sorted)?;
+    Ok(Emitted {
+        items: emission.items,
+        table: emission.conversions,
+        root: emission.root,
+        notes: told,
+    })
+}
+
+// What isn't built yet is told at the root.
+fn unsupported(alloc: Global) -> Fault
+    ensures { fault_view result ≡ unsupported_at [] NotYet }
+{
+    Fault::Unsupported {
+        path: Location::root(alloc),
+        kind: UnsupportedKind::NotYet,
+    }
+}
+
+// Values that are stated aren't checked yet, so where some are, nothing is emitted.
+fn checked(alloc: Global, emitted: Emitted) -> Result<Emitted, Fault>
+    ensures same { IfOk result (λ e. e ≡ emitted) }
+    ensures none { OnOk result (states_nothing_of (conversions_view emitted.table) ≡ true) }
+    ensures told { IfErr result (λ f. fault_view f ≡ unsupported_at [] NotYet) }
+    ensures some { OnErr result (states_nothing_of (conversions_view emitted.table) ≡ false) }
+{
+    if states_nothing(&emitted.table) {
+        Ok(emitted)
+    } else {
+        Err(unsupported(alloc))
+    }
+}
+
+/// The items that stand for a document, by the table of rows: each schema is converted by the first row that fits, what references
+/// lead to has an item, and names are given where wanted ones can't be had. `depth` bounds the steps from a definition or the root to
+/// a schema of it, and the places of a list that is shorter than its sizes. Notes say where the items don't take exactly what is admitted.
+/// Refused is the first fault in the order of conversion: the definitions by name, then the root, each schema before its
+/// parts. Then a document that states a default, or in which a rule lists values, is told as `Unsupported` of kind `NotYet` at the root.
+/// `Texts` comes where the judge of texts failed, `Memory` where memory runs out.
+#[tactic(auto, using(crate::proofs::Firsts::refused_all, crate::proofs::Firsts::without_memory))]
+pub fn converted<T: Texts>(
+    alloc: Global,
+    document: &Document,
+    depth: u32,
+    texts: &mut T,
+) -> Result<Emitted, Fault>
+    requires { WasRead (document_seen document.now) }
+    ensures emission { IfOk result (λ e. emitted_view e ≡ emission_of (T.relations texts.old) (document_seen document.now) depth) }
+    ensures notes { IfOk result (λ e. e.notes.items ≡ map note_of (notes_of (T.relations texts.old) (document_seen document.now) depth)) }
+    ensures faultless { OnOk result (faults_of (T.relations texts.old) (document_seen document.now) depth ≡ []) }
+    ensures built { OnOk result (states_nothing_of (emission_of (T.relations texts.old) (document_seen document.now) depth).conversions ≡ true) }
+    ensures refused { IfErr result (λ f. IsRefusal (T.relations texts.old) (document_seen document.now) depth (T.faults texts.old) (T.faults texts.new) (fault_view f)) }
+    ensures keeps { T.relations texts.new ≡ T.relations texts.old }
+    ensures counts { T.faults texts.old ≤ T.faults texts.new }
+{
+    read_documents_are_planned();
+    plans_are_formed();
+    let converted = table_of(alloc, document, depth, texts)?;
+    let notes = converted.notes;
+    match from_table(alloc, &converted.table, notes) {
+        Ok(emitted) => {
+            let kept = checked(alloc, emitted)?;
+            Ok(kept)
+        }
+        Err(_) => Err(Fault::Memory),
+    }
+}

@@ -1,0 +1,11 @@
+//! Documents converted: the items that stand for a schema document, the table of what their attributes don't say, the type of
+//! the root, and the notes.
+#![tactic(auto)]
+
+mod checking;
+mod conversion;
+mod note;
+mod noting;
+
+pub use conversion::{Emitted, converted};
+pub use note::{Note, NoteKind, Way};

@@ -1,0 +1,62 @@
+//! Notes of a document as they are told.
+ghost use Rattle.std.specs.Prelude.{◌≡◌, IfOk, map};
+ghost use Rattle.row_types.specs.View.{way_view, kind_view};
+ghost use Rattle.note_order.specs.Notes.{placed_view, notes_view};
+ghost use Rattle.typify_convert.specs.Note.{way_of as way_told, kind_of as kind_told, note_of as note_told};
+
+use crate::note::{Note, NoteKind, Way};
+use note_order::PlacedNote;
+use std::alloc::{AllocError, Global};
+
+fn way_of(way: row_types::Way) -> Way
+    ensures { result ≡ way_told (way_view way) }
+{
+    match way {
+        row_types::Way::Narrowed => Way::Narrowed,
+        row_types::Way::Widened => Way::Widened,
+    }
+}
+
+fn kind_of(kind: row_types::NoteKind) -> NoteKind
+    ensures { result ≡ kind_told (kind_view kind) }
+{
+    match kind {
+        row_types::NoteKind::Untyped => NoteKind::N1,
+        row_types::NoteKind::Null => NoteKind::N2,
+        row_types::NoteKind::Const => NoteKind::N3,
+        row_types::NoteKind::Integer => NoteKind::N4,
+        row_types::NoteKind::String => NoteKind::N5,
+        row_types::NoteKind::Array => NoteKind::N6,
+        row_types::NoteKind::OpenBranch => NoteKind::N7,
+        row_types::NoteKind::MixedBranches => NoteKind::N8,
+        row_types::NoteKind::TagAlone => NoteKind::N9,
+        row_types::NoteKind::Boolean => NoteKind::N10,
+        row_types::NoteKind::Type => NoteKind::N11,
+        row_types::NoteKind::Overlap => NoteKind::N12,
+        row_types::NoteKind::Counts => NoteKind::N13,
+        row_types::NoteKind::Names => NoteKind::N14,
+        row_types::NoteKind::Not => NoteKind::N15,
+    }
+}
+
+fn note_of(note: PlacedNote) -> Note
+    ensures { result ≡ note_told (placed_view note) }
+{
+    Note {
+        way: way_of(note.way),
+        kind: kind_of(note.kind),
+        path: note.path,
+    }
+}
+
+/// The notes, in their order.
+pub(crate) fn notes_of(alloc: Global, placed: Vec<PlacedNote>) -> Result<Vec<Note>, AllocError>
+    ensures { IfOk result (λ v. v.items ≡ map note_told (notes_view placed.items)) }
+{
+    let mut notes = Vec::with_capacity(alloc, placed.len())?;
+    for note in placed {
+        let told = note_of(note);
+        notes.push(told)?;
+    }
+    Ok(notes)
+}
