@@ -6,8 +6,9 @@
 #![tactic(auto)]
 
 use run_io::{MemorySink, MemorySource, PlainSink, PlainSource, Sink, Source};
-use schema_tree::{PlainTexts, Setting};
+use schema_tree::Setting;
 use std::alloc::{AllocError, Global};
+use typify_run::RegexTexts;
 
 fn main(rt: HostRuntime) -> Result<(), anyhow::Error> {
     for line in rt.lines(rt.alloc()) {
@@ -55,7 +56,7 @@ impl Called {
 
     // The status with which it ends.
     fn run<S: Source, K: Sink>(&self, alloc: Global, source: &mut S, sink: &mut K) -> u8 {
-        let mut texts = PlainTexts::new(alloc);
+        let mut texts = RegexTexts::new(alloc);
         match self {
             Called::Product(words) => {
                 typify_run::run(alloc, words.as_slice(), source, sink, &mut texts).status

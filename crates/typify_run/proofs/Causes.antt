@@ -1,47 +1,63 @@
 -- What is refused has its cause, and where a report is given no fault has one.
-use Rattle.std.proofs.Common.{◌≡◌, ◌⊎◌, inl, inr, ℕ, zero, suc, List, [], ◌∷◌, true, Option, Some, None, is_some, option_map, sym, subst, ◌∙◌}
+use Rattle.std.proofs.Common.{◌≡◌, ◌⊎◌, inl, inr, ℕ, zero, suc, ◌≤◌, List, [], ◌∷◌, Bool, true, ◌&&◌, Some, option_map, sym, ap, subst, ◌∙◌, true≢false, arith}
 use Rattle.std.proofs.lemmas.Option.{none-some, same_Some}
+use Rattle.std.specs.Prelude.{Result, Ok, Err, IfErr, IsErrAnd}
+use Rattle.run_io.specs.Bytes.{Rises}
 use Rattle.serde_json.specs.Data.{Data}
 use Rattle.json_value.specs.Value.{Value}
 use Rattle.json_value.specs.View.{value_of}
+use Rattle.schema_defs.specs.declared.Setting.TheVariants.{Strict}
 use Rattle.schema_defs.specs.Location.{Location}
+use Rattle.schema_defs.specs.Texts.{Relations}
+use Rattle.schema_defs.specs.Schema.{Document}
+use Rattle.schema_defs.specs.Read.{document_of}
 use Rattle.schema_defs.specs.Walks.{IsGuarded}
 use Rattle.schema_defs.proofs.Decided.{loops_are_unguarded}
 use Rattle.schema_faults.specs.Faults.{Place, first, malformed_places, bad_references, float_places}
-use Rattle.schema_tree.specs.Document.{HasFault, IsAccepted, IsRefusal as IsUnread}
-use Rattle.schema_tree.specs.Fault.{FaultD, memory, malformed, missing_ref, external_ref, unguarded, depth, places, float, value_number, invalid_value, bad_value, invalid_schema, unsupported, texts}
-use Rattle.schema_tree.specs.Form.{form_of}
+use Rattle.schema_tree.specs.Document.{HasFault, IsAccepted, IsReadAs, IsRefusal as IsUnread}
+use Rattle.schema_tree.specs.declared.fault.Fault.{Fault}
+use Rattle.schema_tree.specs.Fault.{FaultD, fault_view, memory, malformed, missing_ref, external_ref, unguarded, depth, places, float, value_number, invalid_value, bad_value, invalid_schema, unsupported, texts}
 use Rattle.schema_tree.specs.Numbers.{are_i64, holds_i64_alone, wide_place, IsWideAt, HasWideNumber}
 use Rattle.schema_tree.proofs.WidePlaces.{wide_exact}
-use Rattle.typify_run.specs.Examine.{IsCause, IsRefusal, is_examined}
+use Rattle.convert_defs.specs.Faults.{faults_of}
+use Rattle.typify_convert.proofs.Firsts.{first_is_a_fault}
+use Rattle.typify_convert.specs.Emitted.{emission_of}
+use Rattle.typify_convert.specs.Stated.{is_none_of, states_nothing}
+use Rattle.typify_convert.specs.Refused as convert
+use Rattle.typify_run.specs.Verdicts.{IsUnjudged}
+use Rattle.typify_run.specs.Examine.{IsCause, IsRefusal, IsUnreported, is_converted, is_examined}
 use Rattle.typify_run.proofs.Judged.{both_true}
+use Rattle.typify_run.proofs.Reported.{none_listed}
 
 -- ---- refusals of the parts are refusals
 
-pub wide_refused : (schema : Value) (ds : List Data) (f : FaultD) → (f ≡ memory) ⊎ HasWideNumber ds f → IsRefusal schema ds f
-wide_refused schema ds f (inl e) = inl e
-wide_refused schema ds (value_number i l) (inr h) = inr h
-wide_refused schema ds _ (inr h) = absurd h
+rises_later : (a b c : ℕ) → a ≤ b → Rises b c → Rises a c
+rises_later a b c h (inl k) = inl (omega (arith, h, k))
+rises_later a b c h (inr k) = inr k
 
-caused : (schema : Value) (ds : List Data) (f : FaultD) → are_i64 ds ≡ true → HasFault schema f → IsCause schema ds f
-caused schema ds memory e h = absurd h
-caused schema ds (malformed l k) e h = (e, h)
-caused schema ds (missing_ref l q) e h = (e, h)
-caused schema ds (external_ref l q) e h = (e, h)
-caused schema ds (unguarded w) e h = (e, h)
-caused schema ds (depth w) e h = absurd h
-caused schema ds (places l n) e h = absurd h
-caused schema ds (float l) e h = (e, h)
-caused schema ds (value_number i l) e h = absurd h
-caused schema ds (invalid_value l v) e h = absurd h
-caused schema ds (bad_value l v) e h = absurd h
-caused schema ds (invalid_schema l k) e h = absurd h
-caused schema ds (unsupported l k) e h = absurd h
-caused schema ds (texts l) e h = absurd h
+-- a judge of texts that failed at a value
+pub unjudged_refused : (r : Relations) (d : Document) (most before between after : ℕ) (f : FaultD) → before ≤ between → IsUnjudged between after f → IsUnreported r d most before after f
+unjudged_refused r d most before between after f h (inl m) = inl m
+unjudged_refused r d most before between after f h (inr u) = inr (inl ([], u.0, rises_later before between after h u.1))
 
-pub unread_refused : (schema : Value) (ds : List Data) (f : FaultD) → are_i64 ds ≡ true → IsUnread schema f → IsRefusal schema ds f
-unread_refused schema ds f e (inl m) = inl m
-unread_refused schema ds f e (inr h) = inr (caused schema ds f e h)
+module _ (r : Relations) (most before after : ℕ) (schema : Value) (ds : List Data) (f : FaultD) where
+  pub wide_refused : (f ≡ memory) ⊎ HasWideNumber ds f → IsRefusal r most before after schema ds f
+  wide_refused (inl e) = inl e
+  wide_refused (inr h) = inr (inr (inl h))
+
+  pub unread_refused : are_i64 ds ≡ true → IsUnread schema f → IsRefusal r most before after schema ds f
+  unread_refused e (inl m) = inl m
+  unread_refused e (inr h) = inr (inr (inr (e, inl h)))
+
+  pub unreported_refused : (d : Document) → are_i64 ds ≡ true → IsReadAs Strict schema d → IsUnreported r d most before after f → IsRefusal r most before after schema ds f
+  unreported_refused d e read (inl m) = inl m
+  unreported_refused d e read (inr (inl t)) = inr (inl t)
+  unreported_refused d e read (inr (inr c)) = inr (inr (inr (e, inr (d, read, c))))
+
+-- what is said of the fault that a step gives is said where it leaves
+pub told_of_fault : {X : Type 0} (a : Result X Fault) (e : Fault) (P : FaultD → Type 0) → IsErrAnd a (λ f. f ≡ e) → P (fault_view e) → IfErr a (λ f. P (fault_view f))
+told_of_fault (Ok x) e P h p = absurd h
+told_of_fault (Err f) e P h p = subst (λ (k : Fault). P (fault_view k)) (sym h) p
 
 -- ---- what is examined and accepted has no fault
 
@@ -62,24 +78,59 @@ no_wide_number i l [] e h = absurd h
 no_wide_number zero l (d ∷ ds) e h = no_wide_place (value_of d) l (both_true (holds_i64_alone (value_of d)) (are_i64 ds) e).0 h
 no_wide_number (suc i) l (d ∷ ds) e h = no_wide_number i l ds (both_true (holds_i64_alone (value_of d)) (are_i64 ds) e).1 h.1
 
-form_is : {A : Type 0} (o : Option A) → is_some o ≡ true → o ≡ None → ⊥
-form_is None e h = absurd (cc)
-form_is (Some x) e h = none-some x (sym h)
-
-pub no_cause : (schema : Value) (ds : List Data) (f : FaultD) → is_examined schema ds ≡ true → IsAccepted schema → IsCause schema ds f → ⊥
-no_cause schema ds memory e a h = h.1
-no_cause schema ds (malformed l k) e a h = first_of_none (malformed_places schema) (l, k) a.1.readable.0.0 h.1
-no_cause schema ds (missing_ref l q) e a h = first_of_none (bad_references schema) (l, q) a.1.readable.0.1 h.1.1
-no_cause schema ds (external_ref l q) e a h = first_of_none (bad_references schema) (l, q) a.1.readable.0.1 h.1.1
-no_cause schema ds (unguarded w) e a h =
-    let walk = h.1.1 in
+-- no fault that a document has
+no_fault : (schema : Value) (f : FaultD) → IsAccepted schema → HasFault schema f → ⊥
+no_fault schema memory a h = h
+no_fault schema (malformed l k) a h = first_of_none (malformed_places schema) (l, k) a.1.readable.0.0 h
+no_fault schema (missing_ref l q) a h = first_of_none (bad_references schema) (l, q) a.1.readable.0.1 h.1
+no_fault schema (external_ref l q) a h = first_of_none (bad_references schema) (l, q) a.1.readable.0.1 h.1
+no_fault schema (unguarded w) a h =
+    let walk = h.1 in
     loops_are_unguarded walk.0 w walk.2 (subst IsGuarded (same_Some a.0 walk.0 (sym a.1.read ∙ walk.1)) a.1.guarded)
-no_cause schema ds (depth w) e a h = h.1
-no_cause schema ds (places l n) e a h = h.1
-no_cause schema ds (float l) e a h = place_of_none (float_places schema) l a.1.readable.1 h.1.1
-no_cause schema ds (value_number i l) e a h = no_wide_number i l ds (both_true (are_i64 ds) (is_some (form_of schema)) e).0 h
-no_cause schema ds (invalid_value l v) e a h = h.1
-no_cause schema ds (bad_value l v) e a h = h.1
-no_cause schema ds (invalid_schema l k) e a h = h.1
-no_cause schema ds (unsupported l k) e a h = form_is (form_of schema) (both_true (are_i64 ds) (is_some (form_of schema)) e).1 h.2
-no_cause schema ds (texts l) e a h = h.1
+no_fault schema (depth w) a h = h
+no_fault schema (places l n) a h = h
+no_fault schema (float l) a h = place_of_none (float_places schema) l a.1.readable.1 h.1
+no_fault schema (value_number i l) a h = h
+no_fault schema (invalid_value l v) a h = h
+no_fault schema (bad_value l v) a h = h
+no_fault schema (invalid_schema l k) a h = h
+no_fault schema (unsupported l k) a h = h
+no_fault schema (texts l) a h = h
+
+no_wide : (ds : List Data) (f : FaultD) → are_i64 ds ≡ true → HasWideNumber ds f → ⊥
+no_wide ds (value_number i l) e h = no_wide_number i l ds e h
+no_wide ds memory e h = h
+no_wide ds (malformed l k) e h = h
+no_wide ds (missing_ref l q) e h = h
+no_wide ds (external_ref l q) e h = h
+no_wide ds (unguarded w) e h = h
+no_wide ds (depth w) e h = h
+no_wide ds (places l n) e h = h
+no_wide ds (float l) e h = h
+no_wide ds (invalid_value l v) e h = h
+no_wide ds (bad_value l v) e h = h
+no_wide ds (invalid_schema l k) e h = h
+no_wide ds (unsupported l k) e h = h
+no_wide ds (texts l) e h = h
+
+-- a document that is converted
+converted_has_none : (r : Relations) (n : ℕ) (d : Document) (f : FaultD) → is_converted r n (Some d) ≡ true → convert.IsCause r d n f → ⊥
+converted_has_none r n d f e (inl h) = first_is_a_fault r d n f h (none_listed (faults_of r d n) (both_true (is_none_of (faults_of r d n)) (states_nothing (emission_of r d n).conversions) e).0)
+converted_has_none r n d f e (inr h) =
+    absurd (true≢false (sym (both_true (is_none_of (faults_of r d n)) (states_nothing (emission_of r d n).conversions) e).1 ∙ h.1))
+
+pub no_cause : (r : Relations) (n : ℕ) (schema : Value) (ds : List Data) (f : FaultD) → is_examined r n schema ds ≡ true → IsAccepted schema → IsCause r n schema ds f → ⊥
+no_cause r n schema ds f e a (inl h) = no_wide ds f (both_true (are_i64 ds) (is_converted r n (document_of Strict schema)) e).0 h
+no_cause r n schema ds f e a (inr (h, inl k)) = no_fault schema f a k
+no_cause r n schema ds f e a (inr (h, inr (d, read, k))) =
+    converted_has_none r n d f (sym (ap (is_converted r n) read.read) ∙ (both_true (are_i64 ds) (is_converted r n (document_of Strict schema)) e).1) k
+
+-- what is converted is examined
+pub examined_so : (r : Relations) (n : ℕ) (schema : Value) (ds : List Data) (d : Document) → are_i64 ds ≡ true → IsReadAs Strict schema d → faults_of r d n ≡ [] → states_nothing (emission_of r d n).conversions ≡ true
+    → is_examined r n schema ds ≡ true
+examined_so r n schema ds d i read none unstated =
+    let faultless = ap is_none_of none in
+    ap (λ (b : Bool). both b (is_converted r n (document_of Strict schema))) i ∙ ap (is_converted r n) read.read ∙ ap (λ (b : Bool). both b (states_nothing (emission_of r d n).conversions)) faultless ∙ unstated
+  where
+    both : Bool → Bool → Bool
+    both a b = a && b

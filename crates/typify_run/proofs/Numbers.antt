@@ -7,15 +7,15 @@ use Rattle.json_value.specs.Value.{Value, Items, Members, null, number, fraction
 use Rattle.schema_tree.specs.Numbers.{fits_i64, holds_i64_alone, items_hold_i64_alone, members_hold_i64_alone}
 use Rattle.reading_defs.specs.Proper.{is_json_number, has_json_numbers, items_have_json_numbers, members_have_json_numbers}
 
-left : (a b : Bool) → (a && b) ≡ true → a ≡ true
+pub left : (a b : Bool) → (a && b) ≡ true → a ≡ true
 left true b h = refl
 left false b h = h
 
-right : (a b : Bool) → (a && b) ≡ true → b ≡ true
+pub right : (a b : Bool) → (a && b) ≡ true → b ≡ true
 right true b h = h
 right false b h = absurd (true≢false (sym h))
 
-both : (a b : Bool) → a ≡ true → b ≡ true → (a && b) ≡ true
+pub both : (a b : Bool) → a ≡ true → b ≡ true → (a && b) ≡ true
 both a b h k = ap (λ c. c && b) h ∙ k
 
 below : (n : ℕ) → int_le (pos n) (pos 9223372036854775807) ≡ true → nat_lt n 18446744073709551616 ≡ true

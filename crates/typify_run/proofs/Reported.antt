@@ -1,61 +1,149 @@
--- A report of the items of a closed object of plain fields is a report of its schema.
-use Rattle.std.proofs.Common.{◌≡◌, List, [], ◌∷◌, map, true, Some, codes, ap, sym, subst, ◌∙◌}
+-- A report on a document that was read is a report of its schema: what its items mean, by the laws of conversion, emission and reading back.
+use Rattle.std.proofs.Common.{◌≡◌, ℕ, List, [], ◌∷◌, map, Bool, true, false, refl, ap, sym, subst, ◌∙◌}
 use Rattle.std.specs.List.{AllByRecursion, list_all}
-use Rattle.syntax_trees.specs.Item.{item_view}
-use Rattle.syntax_trees.specs.View.{ty}
+use Rattle.syntax_trees.specs.Item.{ItemD}
 use Rattle.serde_json.specs.Data.{Data}
 use Rattle.json_value.specs.Value.{Value, IsSmall}
+use Rattle.schema_defs.specs.declared.Setting.TheVariants.{Strict}
 use Rattle.schema_defs.specs.Texts.{Relations}
-use Rattle.model_defs.specs.Types.{type_of, item_type}
-use Rattle.model_defs.specs.Flat.{flat_model, names_differ}
+use Rattle.schema_defs.specs.Schema.{Document}
+use Rattle.attr_defs.specs.Texts.{lexed}
+use Rattle.container_defs.specs.Model.{diagnostics_of}
+use Rattle.model_defs.specs.Types.{type_of}
+use Rattle.model_defs.specs.Reach.{NoneReachesItself}
 use Rattle.model_defs.specs.Reads.{reads}
-use Rattle.schema_tree.specs.Form.{form_of}
-use Rattle.schema_tree.specs.Numbers.{are_i64}
-use Rattle.typify_run.specs.Flat.{Fields, AreKeptNames, flat_document, flats}
-use Rattle.typify_run.specs.Item.{root_item, root_ty}
+use Rattle.reading_defs.specs.Proper.{has_json_numbers}
 use Rattle.schema_tree.specs.Conversions.{conversions_view}
-use Rattle.derive_model.specs.VerdictView.{VerdictD, verdict_view}
-use Rattle.typify_run.specs.Headline.{Deriving, IsClean, models_of, root_of, report_reads, document_admits, AreKept, IsReportOf}
+use Rattle.schema_tree.specs.Document.{IsReadAs}
+use Rattle.schema_tree.specs.Numbers.{are_i64}
+use Rattle.entry_defs.specs.Table.{Table, root_of}
+use Rattle.emit_defs.specs.Emission.{Emission, models_of}
+use Rattle.emit_defs.specs.Formed.{IsEmittable}
+use Rattle.emit_defs.proofs.Acyclic.{acyclic}
+use Rattle.emit_texts.proofs.Functions.{functions_are_read}
+use Rattle.emit_texts.proofs.Types.{types_are_read_again}
+use Rattle.emit_laws.proofs.Assembled.{items_are_read, nothing_is_told}
+use Rattle.convert_defs.specs.Row.{Way, narrowed, widened, Note}
+use Rattle.convert_defs.specs.Convert.{notes_of}
+use Rattle.convert_defs.specs.Laws.{Keeps, same_way, Free}
+use Rattle.document_laws.specs.Laws.{WasRead, plan_of}
+use Rattle.document_defs.proofs.Shaped.{read_plans_are_emittable}
+use Rattle.document_defs.proofs.Composed.{documents_mean_items}
+use Rattle.derive_model.specs.VerdictView.{verdict_view}
+use Rattle.typify_convert.specs.Note.{way_of, note_of}
+use Rattle.typify_convert.specs.Emitted.{emission_of}
+use Rattle.typify_convert.specs.Stated.{is_none_of, is_of_texts, states_nothing}
+use Rattle.typify_run.specs.Headline as headline
+use Rattle.typify_run.specs.Headline.{Deriving, read_of, items_of, HasNone, IsNarrowed, IsWidened, report_reads, document_admits, IsReportOf}
+use Rattle.typify_run.specs.Page.{ArePrintable}
+use Rattle.typify_run.specs.Examine.{as_it_stands, IsMadeOf}
 use Rattle.typify_run.specs.declared.report.Report.{Report}
-use Rattle.typify_run.proofs.Documents.{form_read}
-use Rattle.typify_run.proofs.KeptNames.{form_kept}
-use Rattle.typify_run.proofs.Emitted.{root_clean, read_of, root_alone, root_type, simple, root_exact}
-use Rattle.typify_run.specs.Verdicts.{AreVerdicts, AllRise}
-use Rattle.typify_run.proofs.OneForm.{is_in_form}
-use Rattle.typify_run.proofs.Judged.{none_reaches, judged_alike, all_unchanged, verdicts_in_form}
+use Rattle.typify_run.proofs.Judged.{both_true, judged_alike, printable}
 
-module _ (texts : Relations) (schema : Value) (fs : Fields) (values : List Data) (r : Report)
-    (form : form_of schema ≡ Some fs) (items : map item_view r.items.items ≡ root_item fs ∷ []) (root : ty r.root ≡ root_ty) where
-  differ : names_differ (flats fs) ≡ true
-  differ = (form_read schema fs form).1
+-- ---- lists
 
-  kept : AreKeptNames fs
-  kept = form_kept schema fs form
+-- what holds of each for each way of asking holds of each, for each way
+pub for_all : {A B : Type 0} (P : B → A → Type 0) (xs : List A) → ((b : B) → AllByRecursion (P b) xs) → AllByRecursion (λ x. (b : B) → P b x) xs
+for_all P [] h = tt
+for_all P (x ∷ xs) h = (λ b. (h b).0, for_all P xs (λ b. (h b).1))
 
-  read_alike : (how : Deriving) (v : Value) → report_reads texts r how v ≡ reads (read_of how (root_item fs ∷ [])) (conversions_view r.conversions) texts (type_of root_ty) v
-  read_alike how v = λ i. reads (read_of how (items i)) (conversions_view r.conversions) texts (type_of (root i)) v
+pub none_listed : {A : Type 0} (xs : List A) → is_none_of xs ≡ true → xs ≡ []
+none_listed [] h = refl
+none_listed (x ∷ xs) h = cc
 
-  agrees : (how : Deriving) (v : Value) → IsSmall v → report_reads texts r how v ≡ document_admits texts (flat_document fs) v
-  agrees how v s = read_alike how v ∙ root_exact texts (conversions_view r.conversions) how fs kept differ v s
+none_of_none : {A B : Type 0} (f : A → B) (xs : List A) → map f xs ≡ [] → xs ≡ []
+none_of_none f [] h = refl
+none_of_none f (x ∷ xs) h = cc
 
-  abbrev vs : List VerdictD
-  vs = map verdict_view r.verdicts.items
+-- ---- notes
 
-  pub reported : AreVerdicts (flat_model (codes "Root") true (flats fs) ∷ []) (conversions_view r.conversions) texts (item_type (codes "Root")) values vs → AreKept values vs → IsReportOf texts schema values r
-  reported h k = record {
-    document = flat_document fs;
-    is_read = (form_read schema fs form).0;
-    clean = subst (AllByRecursion IsClean) (sym items) (root_clean fs, tt);
-    exact = λ n how v s. agrees how v s;
-    not_narrower = λ n how v s a. agrees how v s ∙ a;
-    not_wider = λ n how v s a. sym (agrees how v s) ∙ a;
+not_narrow : (w : Way) → (IsNarrowed (way_of w) → ⊥) → same_way narrowed w ≡ false
+not_narrow narrowed h = absurd (h refl)
+not_narrow widened h = refl
+
+not_wide : (w : Way) → (IsWidened (way_of w) → ⊥) → same_way widened w ≡ false
+not_wide narrowed h = refl
+not_wide widened h = absurd (h refl)
+
+free_narrowed : (ns : List Note) → HasNone IsNarrowed (map note_of ns) → Free narrowed ns
+free_narrowed [] h = tt
+free_narrowed (n ∷ ns) h = (not_narrow n.way h.0, free_narrowed ns h.1)
+
+free_widened : (ns : List Note) → HasNone IsWidened (map note_of ns) → Free widened ns
+free_widened [] h = tt
+free_widened (n ∷ ns) h = (not_wide n.way h.0, free_widened ns h.1)
+
+free_of_none : (way : Way) (ns : List Note) → ns ≡ [] → Free way ns
+free_of_none way ns e = subst (Free way) (sym e) tt
+
+-- one way and the other
+both_ways : (a b : Bool) → Keeps narrowed a b → Keeps widened a b → b ≡ a
+both_ways true b h k = h refl
+both_ways false true h k = sym (k refl)
+both_ways false false h k = refl
+
+-- ---- a report
+
+module _ (r : Relations) (d : Document) (depth : ℕ) (values : List Data) (report : Report) (w : WasRead d) (h : IsMadeOf r d depth values report) where
+  abbrev plan : Table
+  plan = plan_of r d depth
+
+  abbrev emitted : Emission
+  emitted = emission_of r d depth
+
+  emittable : IsEmittable plan
+  emittable = read_plans_are_emittable r d depth w
+
+  -- however the items are read, their containers are those that are meant
+  same_models : (how : Deriving) → headline.models_of how report ≡ models_of plan
+  same_models how =
+      ap (λ (k : Emission). read_of how k.items) h.emission
+      ∙ items_are_read functions_are_read types_are_read_again how.variant_name how.field_name how.private how.derive plan emittable (root_of plan)
+
+  ends : NoneReachesItself (read_of as_it_stands (items_of report))
+  ends = subst NoneReachesItself (sym (same_models as_it_stands)) (acyclic plan emittable.sound.acyclic)
+
+  abbrev Told : Deriving → ItemD → Type 0
+  Told how i = diagnostics_of lexed how.variant_name how.field_name how.private i how.derive ≡ []
+
+  clean : AllByRecursion headline.IsClean (items_of report)
+  clean =
+      subst (AllByRecursion headline.IsClean) (sym (ap (λ (k : Emission). k.items) h.emission))
+      (for_all Told emitted.items (λ how. nothing_is_told functions_are_read types_are_read_again how.variant_name how.field_name how.private how.derive plan emittable (root_of plan)))
+
+  keeps : (way : Way) → Free way (notes_of r d depth) → (how : Deriving) (v : Value) → IsSmall v → Keeps way (document_admits r d v) (report_reads r report how v)
+  keeps way free how v s =
+      subst (λ (k : Emission). Keeps way (document_admits r d v) (reads (read_of how k.items) k.conversions r (type_of k.root) v)) (sym h.emission)
+      (documents_mean_items how.variant_name how.field_name how.private how.derive way r d depth w (record { faultless = h.faultless; noteless = free }) v s)
+
+  noteless : report.notes.items ≡ [] → notes_of r d depth ≡ []
+  noteless e = none_of_none note_of (notes_of r d depth) (sym h.notes ∙ e)
+
+  pub reported : (schema : Value) → IsReadAs Strict schema d → IsReportOf r schema values report
+  reported schema read = record {
+    document = d;
+    is_read = read.read;
+    clean = clean;
+    exact = λ e how v s.
+        both_ways (document_admits r d v) (report_reads r report how v)
+        (keeps narrowed (free_of_none narrowed (notes_of r d depth) (noteless e)) how v s) (keeps widened (free_of_none widened (notes_of r d depth) (noteless e)) how v s);
+    not_narrower = λ n how v s. keeps narrowed (free_narrowed (notes_of r d depth) (subst (HasNone IsNarrowed) h.notes n)) how v s;
+    not_wider = λ n how v s. keeps widened (free_widened (notes_of r d depth) (subst (HasNone IsWidened) h.notes n)) how v s;
     verdicts = λ how.
-        judged_alike (flat_model (codes "Root") true (flats fs) ∷ []) (models_of how r) (conversions_view r.conversions) texts (item_type (codes "Root")) (root_of r) values vs
-        (none_reaches (codes "Root") (flats fs)) (ap (read_of how) items ∙ root_alone how fs kept) (ap type_of root ∙ root_type) h;
-    kept = k;
+        judged_alike (read_of as_it_stands (items_of report)) (headline.models_of how report) (conversions_view report.conversions) r (headline.root_of report) (headline.root_of report) values (map verdict_view report.verdicts.items)
+        ends (same_models how ∙ sym (same_models as_it_stands)) refl h.verdicts;
   }
 
-  pub stay : AllRise values → are_i64 values ≡ true → list_all is_in_form values ≡ true
-      → AreVerdicts (flat_model (codes "Root") true (flats fs) ∷ []) (conversions_view r.conversions) texts (item_type (codes "Root")) values vs → AreKept values vs
-  stay rise i f h =
-      all_unchanged (codes "Root") (flats fs) (conversions_view r.conversions) texts differ (simple fs) values vs rise i f (verdicts_in_form r.verdicts.items) h
+  undefaulted : (conversions_view report.conversions).defaults ≡ []
+  undefaulted =
+      ap (λ (k : Emission). k.conversions.defaults) h.emission
+      ∙ none_listed emitted.conversions.defaults (both_true (is_none_of emitted.conversions.defaults) (list_all is_of_texts emitted.conversions.constraints) h.unstated).0
+
+  pub all_printable : are_i64 values ≡ true → ArePrintable (map verdict_view report.verdicts.items)
+  all_printable i =
+      printable (read_of as_it_stands (items_of report)) (conversions_view report.conversions) r (headline.root_of report) values (map verdict_view report.verdicts.items)
+      ends (ap (list_all has_json_numbers) undefaulted) i h.verdicts
+
+-- stated values are none
+pub none_stated : (k : Emission) → states_nothing k.conversions ≡ true → k.conversions.defaults ≡ []
+none_stated k h = none_listed k.conversions.defaults (both_true (is_none_of k.conversions.defaults) (list_all is_of_texts k.conversions.constraints) h).0

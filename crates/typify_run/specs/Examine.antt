@@ -1,51 +1,78 @@
--- What is examined: a schema of the one accepted form, and values whose numbers are i64.
-use Rattle.std.specs.Prelude.{◌≡◌, ◌&&◌, ◌⊎◌, List, [], ◌∷◌, map, Bool, true, Some, None, is_some, codes}
+-- What is examined, why a schema and values are refused, and what a report is made of.
+use Rattle.std.specs.Prelude.{◌≡◌, ◌&&◌, ◌⊎◌, ℕ, List, [], map, Bool, true, false, Option, Some, None}
+use Rattle.run_io.specs.Bytes.{Rises}
 use Rattle.serde_json.specs.Data.{Data}
 use Rattle.json_value.specs.Value.{Value}
-use Rattle.syntax_trees.specs.Item.{item_view}
-use Rattle.syntax_trees.specs.View.{ty}
-use Rattle.schema_tree.specs.Form.{form_of}
-use Rattle.typify_run.specs.Flat.{Fields, flats}
-use Rattle.typify_run.specs.Item.{root_item, root_ty}
+use Rattle.schema_defs.specs.declared.Setting.TheVariants.{Strict}
+use Rattle.schema_defs.specs.Location.{Location}
 use Rattle.schema_defs.specs.Texts.{Relations}
-use Rattle.schema_tree.specs.Conversions.{conversions_view}
-use Rattle.model_defs.specs.Flat.{flat_model}
-use Rattle.model_defs.specs.Types.{item_type}
-use Rattle.derive_model.specs.VerdictView.{verdict_view}
-use Rattle.typify_run.specs.Verdicts.{AreVerdicts, AllRise}
-use Rattle.typify_run.specs.declared.report.Report.{Report}
+use Rattle.schema_defs.specs.Schema.{Document}
+use Rattle.schema_defs.specs.Read.{document_of}
 use Rattle.schema_tree.specs.Numbers.{are_i64, HasWideNumber}
-use Rattle.schema_tree.specs.Document.{IsAccepted, HasFault}
-use Rattle.schema_tree.specs.declared.fault.UnsupportedKind.TheVariants.{NotYet}
-use Rattle.schema_tree.specs.Fault.{FaultD, memory, unsupported, value_number}
+use Rattle.schema_tree.specs.Document.{IsReadAs, HasFault}
+use Rattle.schema_tree.specs.Fault.{FaultD, memory, texts}
+use Rattle.convert_defs.specs.Convert.{notes_of}
+use Rattle.convert_defs.specs.Faults.{faults_of}
+use Rattle.typify_convert.specs.Note.{note_of}
+use Rattle.typify_convert.specs.Emitted.{emission_of}
+use Rattle.typify_convert.specs.Stated.{is_none_of, states_nothing}
+use Rattle.typify_convert.specs.Refused as convert
+use Rattle.schema_tree.specs.Conversions.{conversions_view}
+use Rattle.attr_parts.specs.declared.derive.Derive.TheVariants.{Deserialize}
+use Rattle.derive_model.specs.Items.{private}
+use Rattle.derive_model.specs.VerdictView.{verdict_view}
+use Rattle.typify_run.specs.Verdicts.{AreVerdicts}
+use Rattle.typify_run.specs.Headline.{Deriving, read_of, items_of, root_of, emission_in}
+use Rattle.typify_run.specs.declared.report.Report.{Report}
 
-abbrev pub is_examined : Value → List Data → Bool
-is_examined schema values = are_i64 values && is_some (form_of schema)
+-- no schema of the document has a fault, and no value is stated that would have to be checked
+abbrev pub is_converted : Relations → ℕ → Option Document → Bool
+is_converted r depth None = false
+is_converted r depth (Some d) = is_none_of (faults_of r d depth) && states_nothing (emission_of r d depth).conversions
 
--- the cause of a fault: the first number of the values that is no i64; else the first fault of the document; else a document that is not converted yet, told at the root
-abbrev pub IsCause : Value → List Data → FaultD → Type 0
-IsCause schema values (value_number i l) = HasWideNumber values (value_number i l)
-IsCause schema values (unsupported l k) = (are_i64 values ≡ true) × IsAccepted schema × (form_of schema ≡ None) × (l ≡ []) × (k ≡ NotYet)
-IsCause schema values f = (are_i64 values ≡ true) × HasFault schema f
+-- the values' numbers are i64, and the schema is a document that is converted
+abbrev pub is_examined : Relations → ℕ → Value → List Data → Bool
+is_examined r depth schema values = are_i64 values && is_converted r depth (document_of Strict schema)
 
--- want of memory, or a fault with its cause
-abbrev pub IsRefusal : Value → List Data → FaultD → Type 0
-IsRefusal schema values f = (f ≡ memory) ⊎ IsCause schema values f
+-- why the document that the schema is isn't converted
+abbrev pub IsUnconverted : Relations → ℕ → Value → FaultD → Type 0
+IsUnconverted r depth schema f = (d : Document) × IsReadAs Strict schema d × convert.IsCause r d depth f
 
--- the schema has the one form, and the items and the root are exactly those of its fields
-pub record IsEmission (schema : Value) (r : Report) : Type 0 where
-  pub fields : Fields
-  pub form : form_of schema ≡ Some fields
-  pub items : map item_view r.items.items ≡ root_item fields ∷ []
-  pub root : ty r.root ≡ root_ty
-  -- no rule and no stated default
-  pub constraints : r.conversions.constraints.items ≡ []
-  pub defaults : r.conversions.defaults.items ≡ []
+-- the cause of a fault: the first number of the values that is no i64; else the first fault of the document; else why it isn't converted
+abbrev pub IsCause : Relations → ℕ → Value → List Data → FaultD → Type 0
+IsCause r depth schema values f = HasWideNumber values f ⊎ ((are_i64 values ≡ true) × (HasFault schema f ⊎ IsUnconverted r depth schema f))
 
--- the report of a closed object of plain fields: one item, and the verdicts of its struct
-pub record IsFlatReport (texts : Relations) (fs : Fields) (values : List Data) (r : Report) : Type 0 where
-  pub items : map item_view r.items.items ≡ root_item fs ∷ []
-  pub root : ty r.root ≡ root_ty
-  pub notes : r.notes.items ≡ []
-  pub verdicts : AreVerdicts (flat_model (codes "Root") true (flats fs) ∷ []) (conversions_view r.conversions) texts (item_type (codes "Root")) values (map verdict_view r.verdicts.items)
-  pub rise : AllRise values
+-- a failure of the judge of texts, whose count rose
+abbrev pub IsTextsFault : ℕ → ℕ → FaultD → Type 0
+IsTextsFault before after f = (l : Location) × (f ≡ texts l) × Rises before after
+
+-- want of memory, a failure of the judge of texts, or a fault with its cause
+abbrev pub IsRefusal : Relations → ℕ → ℕ → ℕ → Value → List Data → FaultD → Type 0
+IsRefusal r depth before after schema values f = (f ≡ memory) ⊎ (IsTextsFault before after f ⊎ IsCause r depth schema values f)
+
+-- ---- reports
+
+-- as `Deserialize` reads items, where no rule changes a name
+abbrev pub as_it_stands : Deriving
+as_it_stands = record { variant_name = λ r n. n; field_name = λ r n. n; private = private; derive = Deserialize }
+
+-- of a document that was read: what is emitted for it, its notes, and the verdicts of the items as they are read back
+pub record IsMadeOf (r : Relations) (d : Document) (depth : ℕ) (values : List Data) (report : Report) : Type 0 where
+  pub emission : emission_in report ≡ emission_of r d depth
+  pub notes : report.notes.items ≡ map note_of (notes_of r d depth)
+  pub faultless : faults_of r d depth ≡ []
+  pub unstated : states_nothing (emission_of r d depth).conversions ≡ true
+  pub verdicts : AreVerdicts (read_of as_it_stands (items_of report)) (conversions_view report.conversions) r (root_of report) values (map verdict_view report.verdicts.items)
+
+abbrev pub IsUnreported : Relations → Document → ℕ → ℕ → ℕ → FaultD → Type 0
+IsUnreported r d depth before after f = convert.IsRefusal r d depth before after f
+
+-- The report is of what is emitted for the document that the schema is: the items, the table of conversions and the root's type are the emission of the
+-- table of its entries, and the notes are its notes, in their order. Its schemas have no fault, and no value is stated that would have to be checked.
+pub record IsEmission (r : Relations) (depth : ℕ) (schema : Value) (report : Report) : Type 0 where
+  pub document : Document
+  pub is_read : IsReadAs Strict schema document
+  pub emission : emission_in report ≡ emission_of r document depth
+  pub notes : report.notes.items ≡ map note_of (notes_of r document depth)
+  pub faultless : faults_of r document depth ≡ []
+  pub unstated : states_nothing (emission_of r document depth).conversions ≡ true

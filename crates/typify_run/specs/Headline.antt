@@ -1,5 +1,5 @@
 -- What a report says of a document: the items are read back without a diagnostic, the containers take what the document admits, and the verdicts say so.
-use Rattle.std.specs.Prelude.{◌≡◌, ℕ, List, [], ◌∷◌, map, Bool, true, false, Some, ⊤}
+use Rattle.std.specs.Prelude.{◌≡◌, List, [], ◌∷◌, map, Bool, true, false, Some, ⊤}
 use Rattle.std.specs.List.{AllByRecursion}
 use Rattle.token_trees.specs.Token.{Name}
 use Rattle.syntax_trees.specs.Item.{ItemD, item_view}
@@ -24,10 +24,11 @@ use Rattle.model_defs.specs.Reads.{reads}
 use Rattle.model_defs.specs.Refusals.{refused_at}
 use Rattle.model_defs.specs.Settled.{settled}
 use Rattle.schema_tree.specs.Conversions.{conversions_view}
+use Rattle.emit_defs.specs.Emission.{Emission}
 use Rattle.derive_model.specs.VerdictView.{VerdictD, taken, refused, verdict_view}
-use Rattle.typify_run.specs.declared.note.Way.{Way}
-use Rattle.typify_run.specs.declared.note.Way.TheVariants.{Narrowed, Widened}
-use Rattle.typify_run.specs.declared.note.Note.{Note}
+use Rattle.typify_convert.specs.declared.note.Way.{Way}
+use Rattle.typify_convert.specs.declared.note.Way.TheVariants.{Narrowed, Widened}
+use Rattle.typify_convert.specs.declared.note.Note.{Note}
 use Rattle.typify_run.specs.declared.report.Report.{Report}
 
 -- how serde reads items: what rules make of names of variants and of fields, what its own module is called, and for which derive
@@ -37,6 +38,10 @@ pub record Deriving : Type 0 where
   pub private : Name
   pub derive : Derive
 
+-- the containers that items are read back as
+abbrev pub read_of : Deriving → List ItemD → List ContainerModel
+read_of how is = item_models lexed how.variant_name how.field_name how.private how.derive is
+
 -- neither derive has a diagnostic, whatever serde's own module is called and however names are written
 abbrev pub IsClean : ItemD → Type 0
 IsClean i = (how : Deriving) → diagnostics_of lexed how.variant_name how.field_name how.private i how.derive ≡ []
@@ -44,9 +49,12 @@ IsClean i = (how : Deriving) → diagnostics_of lexed how.variant_name how.field
 abbrev pub items_of : Report → List ItemD
 items_of r = map item_view r.items.items
 
--- the containers that are read back
+-- what the report carries of what is emitted
+abbrev pub emission_in : Report → Emission
+emission_in r = record { items = items_of r; conversions = conversions_view r.conversions; root = ty r.root }
+
 abbrev pub models_of : Deriving → Report → List ContainerModel
-models_of how r = item_models lexed how.variant_name how.field_name how.private how.derive (items_of r)
+models_of how r = read_of how (items_of r)
 
 abbrev pub root_of : Report → TypeModel
 root_of r = type_of (ty r.root)
@@ -87,17 +95,6 @@ AreJudged takes settles stops (d ∷ ds) (v ∷ vs) = IsJudged takes settles sto
 AreJudged takes settles stops [] (v ∷ vs) = ⊥
 AreJudged takes settles stops (d ∷ ds) [] = ⊥
 
--- what is taken is written as it was
-abbrev pub IsKept : Data → VerdictD → Type 0
-IsKept d (taken w) = w ≡ d
-IsKept d (refused l) = ⊤
-
-abbrev pub AreKept : List Data → List VerdictD → Type 0
-AreKept [] [] = ⊤
-AreKept (d ∷ ds) (v ∷ vs) = IsKept d v × AreKept ds vs
-AreKept [] (v ∷ vs) = ⊥
-AreKept (d ∷ ds) [] = ⊥
-
 pub record IsReportOf (texts : Relations) (schema : Value) (values : List Data) (r : Report) : Type 0 where
   -- the schema is a document
   pub document : Document
@@ -111,5 +108,3 @@ pub record IsReportOf (texts : Relations) (schema : Value) (values : List Data) 
   pub not_wider : HasNone IsWidened r.notes.items → (how : Deriving) (v : Value) → IsSmall v → report_reads texts r how v ≡ true → document_admits texts document v ≡ true
   -- the verdicts are those of the containers
   pub verdicts : (how : Deriving) → AreJudged (report_reads texts r how) (report_settles texts r how) (report_refuses texts r how) values (map verdict_view r.verdicts.items)
-  -- no schema of the one form states a default or leaves a member out, so what is taken stays as it is
-  pub kept : AreKept values (map verdict_view r.verdicts.items)

@@ -1,7 +1,5 @@
-pub mod Flat
-pub mod Item
 pub mod Words
-pub mod Note
+pub mod Call
 pub mod Verdicts
 pub mod Page
 pub mod Headline

@@ -2,9 +2,7 @@
 #![tactic(auto)]
 
 mod examination;
-mod item;
 mod judging;
-mod note;
 mod outcome;
 mod report;
 mod top;
@@ -12,8 +10,6 @@ mod words;
 
 pub use derive_model::Verdict;
 pub use examination::examine;
-pub use item::root_item;
-pub use note::{Note, NoteKind, Way};
 pub use outcome::Outcome;
 pub use regex_texts::RegexTexts;
 pub use report::Report;
@@ -22,4 +18,5 @@ pub use run_io::{
     StdSource, put,
 };
 pub use top::run;
+pub use typify_convert::{Note, NoteKind, Way};
 pub use whole_numbers::whole_numbers;

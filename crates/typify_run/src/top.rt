@@ -8,7 +8,8 @@ ghost use Rattle.run_input.specs.Input.{Parts, IsInput, IsNoInput, limit};
 ghost use Rattle.typify_run.specs.Outcome.{Answers, Ends, EndsReading, IsBare, IsCarried, IsCauseIn, IsCaused, IsCutShort, IsFaultPrinted, IsMemorySpent, IsPrinting, IsReportPrinted, IsReported, IsWritingCut, examined as examined_of, is_built, values_of};
 ghost use Rattle.typify_run.specs.Page.{ArePrintable};
 ghost use Rattle.derive_model.specs.VerdictView.{verdict_view};
-ghost use Rattle.typify_run.specs.Words.{command_of, depth_said};
+ghost use Rattle.typify_run.specs.Call.{Call, call, call_of};
+ghost use Rattle.typify_run.specs.Words.{depth_said};
 
 use crate::examination::examine;
 use crate::outcome::Outcome;
@@ -23,7 +24,7 @@ use std::alloc::Global;
 // The report printed.
 fn print_report<K: Sink>(alloc: Global, command: Command, report: Report, sink: &mut K) -> Outcome
     requires { ArePrintable (map verdict_view report.verdicts.items) }
-    ensures answer { (texts : Relations) (parts : Parts) → IsReported command texts parts report → Answers command texts parts (K.written sink.old) (K.written sink.new) result.status result.report result.fault }
+    ensures answer { (depth : ℕ) (texts : Relations) (before after : ℕ) (parts : Parts) → IsReported (call command depth texts before after) parts report → Answers (call command depth texts before after) parts (K.written sink.old) (K.written sink.new) result.status result.report result.fault }
     ensures write_fault { result.status ≡ 5 → Rises (K.faults sink.old) (K.faults sink.new) }
     ensures kept { K.faults sink.old ≤ K.faults sink.new }
 {
@@ -47,7 +48,7 @@ fn print_report<K: Sink>(alloc: Global, command: Command, report: Report, sink: 
 
 // The line of a fault printed.
 fn print_fault<K: Sink>(alloc: Global, fault: Fault, sink: &mut K) -> Outcome
-    ensures answer { (command : Command) (texts : Relations) (parts : Parts) → IsCaused command parts fault → Answers command texts parts (K.written sink.old) (K.written sink.new) result.status result.report result.fault }
+    ensures answer { (c : Call) (parts : Parts) → IsCaused c parts fault → Answers c parts (K.written sink.old) (K.written sink.new) result.status result.report result.fault }
     ensures write_fault { result.status ≡ 5 → Rises (K.faults sink.old) (K.faults sink.new) }
     ensures kept { K.faults sink.old ≤ K.faults sink.new }
 {
@@ -90,7 +91,7 @@ fn run_parts<K: Sink, T: Texts>(
     texts: &mut T,
 ) -> Outcome
     requires { 1 ≤ depth }
-    ensures answer { (parts : Parts) → parts.schema ≡ view schema.now → values_of command parts ≡ map view values.now → Answers command (T.relations texts.old) parts (K.written sink.old) (K.written sink.new) result.status result.report result.fault }
+    ensures answer { (parts : Parts) → parts.schema ≡ view schema.now → values_of command parts ≡ map view values.now → Answers (call command depth (T.relations texts.old) (T.faults texts.old) (T.faults texts.new)) parts (K.written sink.old) (K.written sink.new) result.status result.report result.fault }
     ensures write_fault { result.status ≡ 5 → Rises (K.faults sink.old) (K.faults sink.new) }
     ensures kept { K.faults sink.old ≤ K.faults sink.new }
     ensures keeps { T.relations texts.new ≡ T.relations texts.old }
@@ -119,7 +120,7 @@ fn run_bytes<K: Sink, T: Texts>(
 ) -> Outcome
     requires depth { 1 ≤ depth }
     requires short { length bytes.now ≤ limit }
-    ensures ends { Ends command (T.relations texts.old) bytes.now (K.written sink.old) (K.written sink.new) result.status result.report result.fault }
+    ensures ends { Ends (call command depth (T.relations texts.old) (T.faults texts.old) (T.faults texts.new)) bytes.now (K.written sink.old) (K.written sink.new) result.status result.report result.fault }
     ensures write_fault { result.status ≡ 5 → Rises (K.faults sink.old) (K.faults sink.new) }
     ensures kept { K.faults sink.old ≤ K.faults sink.new }
     ensures keeps { T.relations texts.new ≡ T.relations texts.old }
@@ -154,8 +155,8 @@ fn run_command<S: Source, K: Sink, T: Texts>(
     texts: &mut T,
 ) -> Outcome
     requires { 1 ≤ depth }
-    ensures ends { (all : List ℕ) → S.left source.old ≡ Some all → EndsReading command (T.relations texts.old) all (K.written sink.old) (K.written sink.new) result.status result.report result.fault }
-    ensures carried { IsCarried command (T.relations texts.old) (K.written sink.old) (K.written sink.new) result.status result.report result.fault }
+    ensures ends { (all : List ℕ) → S.left source.old ≡ Some all → EndsReading (call command depth (T.relations texts.old) (T.faults texts.old) (T.faults texts.new)) all (K.written sink.old) (K.written sink.new) result.status result.report result.fault }
+    ensures carried { IsCarried (call command depth (T.relations texts.old) (T.faults texts.old) (T.faults texts.new)) (K.written sink.old) (K.written sink.new) result.status result.report result.fault }
     ensures built { result.status ≢ 2 }
     ensures within { result.status ≤ 6 }
     ensures spent { (all : List ℕ) → S.left source.old ≡ Some all → IsPrinting result.status → S.left source.new ≡ Some [] }
@@ -186,19 +187,19 @@ pub fn run<S: Source, K: Sink, T: Texts>(
     texts: &mut T,
 ) -> Outcome
     ensures within { result.status ≤ 6 }
-    ensures carried { IsCarried (command_of (map string_bytes words.now)) (T.relations texts.old) (K.written sink.old) (K.written sink.new) result.status result.report result.fault }
-    ensures report { (all : List ℕ) → S.left source.old ≡ Some all → result.status ≡ 0 → IsReportPrinted (command_of (map string_bytes words.now)) (T.relations texts.old) all (K.written sink.old) (K.written sink.new) result.report result.fault }
-    ensures fault { (all : List ℕ) → S.left source.old ≡ Some all → result.status ≡ 1 → IsFaultPrinted (command_of (map string_bytes words.now)) all (K.written sink.old) (K.written sink.new) result.report result.fault }
+    ensures carried { IsCarried (call_of (map string_bytes words.now) (T.relations texts.old) (T.faults texts.old) (T.faults texts.new)) (K.written sink.old) (K.written sink.new) result.status result.report result.fault }
+    ensures report { (all : List ℕ) → S.left source.old ≡ Some all → result.status ≡ 0 → IsReportPrinted (call_of (map string_bytes words.now) (T.relations texts.old) (T.faults texts.old) (T.faults texts.new)) all (K.written sink.old) (K.written sink.new) result.report result.fault }
+    ensures fault { (all : List ℕ) → S.left source.old ≡ Some all → result.status ≡ 1 → IsFaultPrinted (call_of (map string_bytes words.now) (T.relations texts.old) (T.faults texts.old) (T.faults texts.new)) all (K.written sink.old) (K.written sink.new) result.report result.fault }
     ensures words { (result.status ≡ 2) ↔ (depth_said (map string_bytes words.now) ≡ None) }
     ensures other_words { result.status ≡ 2 → (S.left source.new ≡ S.left source.old) × IsBare (K.written sink.old) (K.written sink.new) result.report result.fault }
     ensures no_input { (all : List ℕ) → S.left source.old ≡ Some all → result.status ≡ 3 → IsNoInput all × IsBare (K.written sink.old) (K.written sink.new) result.report result.fault }
     ensures read_fault { result.status ≡ 4 → Rises (S.faults source.old) (S.faults source.new) × IsBare (K.written sink.old) (K.written sink.new) result.report result.fault }
     ensures write_fault { result.status ≡ 5 → Rises (K.faults sink.old) (K.faults sink.new) }
-    ensures writing_cut { (all : List ℕ) → S.left source.old ≡ Some all → result.status ≡ 5 → IsWritingCut (command_of (map string_bytes words.now)) (T.relations texts.old) all (K.written sink.old) (K.written sink.new) result.report result.fault }
-    ensures memory { (all : List ℕ) → S.left source.old ≡ Some all → result.status ≡ 6 → IsMemorySpent (command_of (map string_bytes words.now)) (T.relations texts.old) all (K.written sink.old) (K.written sink.new) result.report result.fault }
+    ensures writing_cut { (all : List ℕ) → S.left source.old ≡ Some all → result.status ≡ 5 → IsWritingCut (call_of (map string_bytes words.now) (T.relations texts.old) (T.faults texts.old) (T.faults texts.new)) all (K.written sink.old) (K.written sink.new) result.report result.fault }
+    ensures memory { (all : List ℕ) → S.left source.old ≡ Some all → result.status ≡ 6 → IsMemorySpent (call_of (map string_bytes words.now) (T.relations texts.old) (T.faults texts.old) (T.faults texts.new)) all (K.written sink.old) (K.written sink.new) result.report result.fault }
     ensures refused { (all : List ℕ) → S.left source.old ≡ Some all → IsNoInput all → (result.status ≡ 2) ⊎ ((result.status ≡ 3) ⊎ IsCutShort result.status) }
-    ensures not_built { (all : List ℕ) (parts : Parts) → S.left source.old ≡ Some all → IsInput all parts → is_built (command_of (map string_bytes words.now)) parts ≡ false → (result.status ≡ 1) ⊎ ((result.status ≡ 2) ⊎ IsCutShort result.status) }
-    ensures faulty { (all : List ℕ) (parts : Parts) (f : FaultD) → S.left source.old ≡ Some all → IsInput all parts → IsCauseIn (command_of (map string_bytes words.now)) parts f → (result.status ≡ 1) ⊎ ((result.status ≡ 2) ⊎ IsCutShort result.status) }
+    ensures not_built { (all : List ℕ) (parts : Parts) → S.left source.old ≡ Some all → IsInput all parts → is_built (call_of (map string_bytes words.now) (T.relations texts.old) (T.faults texts.old) (T.faults texts.new)) parts ≡ false → (result.status ≡ 1) ⊎ ((result.status ≡ 2) ⊎ IsCutShort result.status) }
+    ensures faulty { (all : List ℕ) (parts : Parts) (f : FaultD) → S.left source.old ≡ Some all → IsInput all parts → IsCauseIn (call_of (map string_bytes words.now) (T.relations texts.old) (T.faults texts.old) (T.faults texts.new)) parts f → (result.status ≡ 1) ⊎ ((result.status ≡ 2) ⊎ IsCutShort result.status) }
     ensures spent { (all : List ℕ) → S.left source.old ≡ Some all → IsPrinting result.status → S.left source.new ≡ Some [] }
     ensures kept_source { S.faults source.old ≤ S.faults source.new }
     ensures kept_sink { K.faults sink.old ≤ K.faults sink.new }

@@ -1,10 +1,41 @@
+use Rattle.std.proofs.Common.{◌∙◌, List, map, ap, subst}
+use Rattle.syntax_trees.specs.Item.{item_view}
+use Rattle.syntax_trees.specs.View.{ty}
+use Rattle.syntax_trees.specs.declared.item.DeriveInput.{DeriveInput}
+use Rattle.serde_json.specs.View.{view}
+use Rattle.schema_defs.specs.Texts.{Relations}
+use Rattle.model_defs.specs.Types.{type_of}
+use Rattle.schema_tree.specs.Conversions.{conversions_view}
+use Rattle.schema_tree.specs.Document.{view as document_seen}
+use Rattle.emit_defs.specs.Emission.{Emission}
+use Rattle.derive_model.specs.VerdictView.{verdict_view}
+use Rattle.typify_convert.specs.Emitted.{emission_of}
+use Rattle.typify_run.specs.Headline.{read_of}
+use Rattle.typify_run.specs.Examine.{as_it_stands}
+use Rattle.typify_run.specs.Verdicts.{AreVerdicts}
+use Rattle.typify_run.proofs.Reported.{none_stated}
 use Rattle.typify_run.proofs.examination.report_of.Goals as goal
 
+pub judged-requires-clause-plain : goal.judged-requires-clause-plain
+judged-requires-clause-plain g c =
+    let r = g.T.Texts.relations c.args.texts.now in
+    let is = c.in_ok-emitted.ensures in
+    ap (λ (k : Emission). k.conversions.defaults) is.emission ∙ none_stated (emission_of r (document_seen c.args.document.now) c.args.depth) is.built
+
 pub returns-clause-report : goal.returns-clause-report
-returns-clause-report g c = record {
-  items = c.in_ok-items.ensures;
-  root = c.in_ok-root.ensures;
-  notes = c.new.ensures.items;
-  verdicts = c.in_ok-verdicts.ensures.verdicts;
-  rise = c.in_ok-verdicts.ensures.rise;
-}
+returns-clause-report g c =
+    let e = c.in_ok-emitted.emitted in
+    let is = c.in_ok-emitted.ensures in
+    let r = g.T.Texts.relations c.args.texts.now in
+    let cs = conversions_view e.table in
+    let t = type_of (ty e.root) in
+    let values = map view c.args.values.now in
+    let verdicts = map verdict_view c.in_ok-verdicts.verdicts.items in
+    let told = subst (λ (k : Relations). AreVerdicts (read_of as_it_stands (map item_view c.deref.result.now)) cs k t values verdicts) is.keeps c.in_ok-verdicts.ensures.verdicts in
+    record {
+      emission = is.emission;
+      notes = is.notes;
+      faultless = is.faultless;
+      unstated = is.built;
+      verdicts = subst (λ (is : List DeriveInput). AreVerdicts (read_of as_it_stands (map item_view is)) cs r t values verdicts) c.deref.ensures.value told;
+    }

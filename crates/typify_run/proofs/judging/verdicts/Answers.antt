@@ -4,7 +4,6 @@ use Rattle.serde_json.specs.View.{view}
 use Rattle.serde_json.specs.declared.value.Value.{Value}
 use Rattle.json_value.specs.View.{value_of}
 use Rattle.schema_defs.specs.Texts.{Relations}
-use Rattle.model_defs.specs.Flat.{NamesRise}
 use Rattle.model_defs.specs.Types.{type_of}
 use Rattle.schema_tree.specs.Numbers.{holds_i64_alone}
 use Rattle.derive_model.specs.Judging.{IsVerdict}
@@ -12,7 +11,7 @@ use Rattle.derive_model.specs.ModuleView.{models_in, conversions_in}
 use Rattle.derive_model.specs.VerdictView.{verdict_view}
 use Rattle.derive_model.specs.declared.verdict.Verdict.{Verdict}
 use Rattle.typify_run.specs.Verdicts.{AreVerdicts}
-use Rattle.typify_run.proofs.Judged.{verdicts_more, rise_more, i64_at}
+use Rattle.typify_run.proofs.Judged.{verdicts_more, i64_at}
 use Rattle.typify_run.proofs.judging.verdicts.Goals as goal
 
 pub verdict-requires-clause-numbers : goal.verdict-requires-clause-numbers
@@ -34,12 +33,10 @@ loop-value-preserved g c =
     let told = c.in_ok-told.ensures in
     let now = subst (λ (k : Relations). IsVerdict ms cs k t (value_of (view x)) (verdict_view v)) before.keeps told.verdict in
     let here = subst (λ (w : Value). IsVerdict ms cs r t (value_of (view w)) (verdict_view v)) c.value-item.is now in
-    let rises = subst (λ (w : Value). NamesRise (value_of (view w))) c.value-item.is told.rises in
     record {
       verdicts =
-          subst (λ (vs : List Verdict). AreVerdicts ms cs r t (map view (take (i + 1) xs)) (map verdict_view vs)) (sym c.in_ok-push.ensures.items)
+          subst (λ (vs : List Verdict). AreVerdicts ms cs r t (map view (take (i + 1) xs)) (map verdict_view vs)) (sym c.in_ok-push_verdict.ensures.pushed)
           (verdicts_more ms cs r t view verdict_view xs i x c.loop-value.verdicts.items v c.loop-value-test.true before.verdicts here);
-      rise = rise_more view xs i x c.loop-value-test.true before.rise rises;
       keeps = told.keeps ∙ before.keeps;
       counts = omega (arith, before.counts, told.counts);
     }

@@ -4,13 +4,12 @@ use Rattle.syntax_trees.specs.View.{ty}
 use Rattle.model_defs.specs.Types.{type_of}
 use Rattle.derive_model.specs.ModuleView.{models_in, conversions_in}
 use Rattle.derive_model.specs.VerdictView.{verdict_view}
-use Rattle.typify_run.specs.Verdicts.{AreVerdicts, AllRise}
+use Rattle.typify_run.specs.Verdicts.{AreVerdicts}
 use Rattle.typify_run.proofs.judging.verdicts.Given as goal
 
 abbrev pub invariant-loop-value : goal.invariant-loop-value
 invariant-loop-value g l = record {
   verdicts : AreVerdicts (models_in l.models) (conversions_in l.models) (g.T.Texts.relations l.initial.texts) (type_of (ty l.root)) (map view (take l.value-index l.values)) (map verdict_view l.verdicts.items);
-  rise : AllRise (map view (take l.value-index l.values));
   keeps : g.T.Texts.relations l.texts ≡ g.T.Texts.relations l.initial.texts;
   counts : g.T.Texts.faults l.initial.texts ≤ g.T.Texts.faults l.texts;
 }

@@ -1,6 +1,8 @@
 use Rattle.std.proofs.Common.{inl, inr, ◌⊎◌, ◌≡◌, ℕ, subst, map, string_bytes}
+use Rattle.typify_run.specs.Call.{Call, call_of}
 use Rattle.typify_run.specs.Outcome.{EndsReading, IsCarried, IsCutShort}
-use Rattle.typify_run.specs.Words.{command_of}
+use Rattle.typify_run.specs.Words.{command_of, depth_said}
+use Rattle.typify_run.proofs.Calls.{same_call}
 use Rattle.typify_run.proofs.Statuses.{report_printed, fault_printed, no_input, writing_cut, memory_spent, refused, not_built, faulty}
 use Rattle.typify_run.proofs.top.run.Goals as goal
 
@@ -15,87 +17,124 @@ between status (inr h) = inr (inr h)
 pub returns-in-Some-clause-carried : goal.returns-in-Some-clause-carried
 returns-in-Some-clause-carried g c =
     let o = c.run_command.result in
+    let words = map string_bytes c.args.words.now in
     let texts = g.T.Texts.relations c.args.texts.now in
+    let faults = g.T.Texts.faults c.args.texts.now in
+    let faults' = g.T.Texts.faults c.run_command.new.texts in
     let before = g.K.Sink.written c.args.sink.now in
     let after = g.K.Sink.written c.run_command.new.sink in
-    subst (λ m. IsCarried m texts before after o.status o.report o.fault) c.command_of_words.ensures c.run_command.ensures.carried
+    let asked = call_of words texts faults faults' in
+    let same = same_call c.command_of_words.result (command_of words) c.in-Some.depth (depth_said words) texts faults faults' c.command_of_words.ensures c.in-Some.ensures.exact in
+    subst (λ (k : Call). IsCarried k before after o.status o.report o.fault) same c.run_command.ensures.carried
 
 pub returns-in-Some-clause-report : goal.returns-in-Some-clause-report
 returns-in-Some-clause-report g c = λ all left e.
     let o = c.run_command.result in
-    let asked = command_of (map string_bytes c.args.words.now) in
+    let words = map string_bytes c.args.words.now in
     let texts = g.T.Texts.relations c.args.texts.now in
+    let faults = g.T.Texts.faults c.args.texts.now in
+    let faults' = g.T.Texts.faults c.run_command.new.texts in
     let before = g.K.Sink.written c.args.sink.now in
     let after = g.K.Sink.written c.run_command.new.sink in
-    let ends = subst (λ m. EndsReading m texts all before after o.status o.report o.fault) c.command_of_words.ensures (c.run_command.ensures.ends all left) in
-    report_printed asked texts all before after o.status o.report o.fault ends e
+    let asked = call_of words texts faults faults' in
+    let same = same_call c.command_of_words.result (command_of words) c.in-Some.depth (depth_said words) texts faults faults' c.command_of_words.ensures c.in-Some.ensures.exact in
+    let ends = subst (λ (k : Call). EndsReading k all before after o.status o.report o.fault) same (c.run_command.ensures.ends all left) in
+    report_printed asked all before after o.status o.report o.fault ends e
 
 pub returns-in-Some-clause-fault : goal.returns-in-Some-clause-fault
 returns-in-Some-clause-fault g c = λ all left e.
     let o = c.run_command.result in
-    let asked = command_of (map string_bytes c.args.words.now) in
+    let words = map string_bytes c.args.words.now in
     let texts = g.T.Texts.relations c.args.texts.now in
+    let faults = g.T.Texts.faults c.args.texts.now in
+    let faults' = g.T.Texts.faults c.run_command.new.texts in
     let before = g.K.Sink.written c.args.sink.now in
     let after = g.K.Sink.written c.run_command.new.sink in
-    let ends = subst (λ m. EndsReading m texts all before after o.status o.report o.fault) c.command_of_words.ensures (c.run_command.ensures.ends all left) in
-    fault_printed asked texts all before after o.status o.report o.fault ends e
+    let asked = call_of words texts faults faults' in
+    let same = same_call c.command_of_words.result (command_of words) c.in-Some.depth (depth_said words) texts faults faults' c.command_of_words.ensures c.in-Some.ensures.exact in
+    let ends = subst (λ (k : Call). EndsReading k all before after o.status o.report o.fault) same (c.run_command.ensures.ends all left) in
+    fault_printed asked all before after o.status o.report o.fault ends e
 
 pub returns-in-Some-clause-no_input : goal.returns-in-Some-clause-no_input
 returns-in-Some-clause-no_input g c = λ all left e.
     let o = c.run_command.result in
-    let asked = command_of (map string_bytes c.args.words.now) in
+    let words = map string_bytes c.args.words.now in
     let texts = g.T.Texts.relations c.args.texts.now in
+    let faults = g.T.Texts.faults c.args.texts.now in
+    let faults' = g.T.Texts.faults c.run_command.new.texts in
     let before = g.K.Sink.written c.args.sink.now in
     let after = g.K.Sink.written c.run_command.new.sink in
-    let ends = subst (λ m. EndsReading m texts all before after o.status o.report o.fault) c.command_of_words.ensures (c.run_command.ensures.ends all left) in
-    no_input asked texts all before after o.status o.report o.fault ends e
+    let asked = call_of words texts faults faults' in
+    let same = same_call c.command_of_words.result (command_of words) c.in-Some.depth (depth_said words) texts faults faults' c.command_of_words.ensures c.in-Some.ensures.exact in
+    let ends = subst (λ (k : Call). EndsReading k all before after o.status o.report o.fault) same (c.run_command.ensures.ends all left) in
+    no_input asked all before after o.status o.report o.fault ends e
 
 pub returns-in-Some-clause-writing_cut : goal.returns-in-Some-clause-writing_cut
 returns-in-Some-clause-writing_cut g c = λ all left e.
     let o = c.run_command.result in
-    let asked = command_of (map string_bytes c.args.words.now) in
+    let words = map string_bytes c.args.words.now in
     let texts = g.T.Texts.relations c.args.texts.now in
+    let faults = g.T.Texts.faults c.args.texts.now in
+    let faults' = g.T.Texts.faults c.run_command.new.texts in
     let before = g.K.Sink.written c.args.sink.now in
     let after = g.K.Sink.written c.run_command.new.sink in
-    let ends = subst (λ m. EndsReading m texts all before after o.status o.report o.fault) c.command_of_words.ensures (c.run_command.ensures.ends all left) in
-    writing_cut asked texts all before after o.status o.report o.fault ends e
+    let asked = call_of words texts faults faults' in
+    let same = same_call c.command_of_words.result (command_of words) c.in-Some.depth (depth_said words) texts faults faults' c.command_of_words.ensures c.in-Some.ensures.exact in
+    let ends = subst (λ (k : Call). EndsReading k all before after o.status o.report o.fault) same (c.run_command.ensures.ends all left) in
+    writing_cut asked all before after o.status o.report o.fault ends e
 
 pub returns-in-Some-clause-memory : goal.returns-in-Some-clause-memory
 returns-in-Some-clause-memory g c = λ all left e.
     let o = c.run_command.result in
-    let asked = command_of (map string_bytes c.args.words.now) in
+    let words = map string_bytes c.args.words.now in
     let texts = g.T.Texts.relations c.args.texts.now in
+    let faults = g.T.Texts.faults c.args.texts.now in
+    let faults' = g.T.Texts.faults c.run_command.new.texts in
     let before = g.K.Sink.written c.args.sink.now in
     let after = g.K.Sink.written c.run_command.new.sink in
-    let ends = subst (λ m. EndsReading m texts all before after o.status o.report o.fault) c.command_of_words.ensures (c.run_command.ensures.ends all left) in
-    memory_spent asked texts all before after o.status o.report o.fault ends e
+    let asked = call_of words texts faults faults' in
+    let same = same_call c.command_of_words.result (command_of words) c.in-Some.depth (depth_said words) texts faults faults' c.command_of_words.ensures c.in-Some.ensures.exact in
+    let ends = subst (λ (k : Call). EndsReading k all before after o.status o.report o.fault) same (c.run_command.ensures.ends all left) in
+    memory_spent asked all before after o.status o.report o.fault ends e
 
 pub returns-in-Some-clause-refused : goal.returns-in-Some-clause-refused
 returns-in-Some-clause-refused g c = λ all left none.
     let o = c.run_command.result in
-    let asked = command_of (map string_bytes c.args.words.now) in
+    let words = map string_bytes c.args.words.now in
     let texts = g.T.Texts.relations c.args.texts.now in
+    let faults = g.T.Texts.faults c.args.texts.now in
+    let faults' = g.T.Texts.faults c.run_command.new.texts in
     let before = g.K.Sink.written c.args.sink.now in
     let after = g.K.Sink.written c.run_command.new.sink in
-    let ends = subst (λ m. EndsReading m texts all before after o.status o.report o.fault) c.command_of_words.ensures (c.run_command.ensures.ends all left) in
-    aside o.status (refused asked texts all before after o.status o.report o.fault ends none)
+    let asked = call_of words texts faults faults' in
+    let same = same_call c.command_of_words.result (command_of words) c.in-Some.depth (depth_said words) texts faults faults' c.command_of_words.ensures c.in-Some.ensures.exact in
+    let ends = subst (λ (k : Call). EndsReading k all before after o.status o.report o.fault) same (c.run_command.ensures.ends all left) in
+    aside o.status (refused asked all before after o.status o.report o.fault ends none)
 
 pub returns-in-Some-clause-not_built : goal.returns-in-Some-clause-not_built
 returns-in-Some-clause-not_built g c = λ all parts left input other.
     let o = c.run_command.result in
-    let asked = command_of (map string_bytes c.args.words.now) in
+    let words = map string_bytes c.args.words.now in
     let texts = g.T.Texts.relations c.args.texts.now in
+    let faults = g.T.Texts.faults c.args.texts.now in
+    let faults' = g.T.Texts.faults c.run_command.new.texts in
     let before = g.K.Sink.written c.args.sink.now in
     let after = g.K.Sink.written c.run_command.new.sink in
-    let ends = subst (λ m. EndsReading m texts all before after o.status o.report o.fault) c.command_of_words.ensures (c.run_command.ensures.ends all left) in
-    between o.status (not_built asked texts all before after o.status o.report o.fault ends parts input other)
+    let asked = call_of words texts faults faults' in
+    let same = same_call c.command_of_words.result (command_of words) c.in-Some.depth (depth_said words) texts faults faults' c.command_of_words.ensures c.in-Some.ensures.exact in
+    let ends = subst (λ (k : Call). EndsReading k all before after o.status o.report o.fault) same (c.run_command.ensures.ends all left) in
+    between o.status (not_built asked all before after o.status o.report o.fault ends parts input other)
 
 pub returns-in-Some-clause-faulty : goal.returns-in-Some-clause-faulty
 returns-in-Some-clause-faulty g c = λ all parts f left input cause.
     let o = c.run_command.result in
-    let asked = command_of (map string_bytes c.args.words.now) in
+    let words = map string_bytes c.args.words.now in
     let texts = g.T.Texts.relations c.args.texts.now in
+    let faults = g.T.Texts.faults c.args.texts.now in
+    let faults' = g.T.Texts.faults c.run_command.new.texts in
     let before = g.K.Sink.written c.args.sink.now in
     let after = g.K.Sink.written c.run_command.new.sink in
-    let ends = subst (λ m. EndsReading m texts all before after o.status o.report o.fault) c.command_of_words.ensures (c.run_command.ensures.ends all left) in
-    between o.status (faulty asked texts all before after o.status o.report o.fault ends parts f input cause)
+    let asked = call_of words texts faults faults' in
+    let same = same_call c.command_of_words.result (command_of words) c.in-Some.depth (depth_said words) texts faults faults' c.command_of_words.ensures c.in-Some.ensures.exact in
+    let ends = subst (λ (k : Call). EndsReading k all before after o.status o.report o.fault) same (c.run_command.ensures.ends all left) in
+    between o.status (faulty asked all before after o.status o.report o.fault ends parts f input cause)

@@ -2,6 +2,7 @@ use Rattle.std.proofs.Common.{◌≡◌, refl, sym, ap, map, inl, inr, subst, �
 use Rattle.serde_json.specs.View.{view, items_view}
 use Rattle.run_input.specs.Input.{Parts, data_of}
 use Rattle.run_input.proofs.Inputs.{data_of_items}
+use Rattle.typify_run.specs.Call.{call}
 use Rattle.typify_run.specs.Outcome.{Ends, examined, values_of}
 use Rattle.typify_run.specs.declared.outcome.Outcome.{Outcome}
 use Rattle.typify_run.proofs.top.run_bytes.Goals as goal
@@ -20,5 +21,6 @@ returns-in-Some-clause-ends g c =
 pub returns-in-Err-NotJson-clause-ends : goal.returns-in-Err-NotJson-clause-ends
 returns-in-Err-NotJson-clause-ends g c =
     let old = g.K.Sink.written c.args.sink.now in
-    subst (λ (o : Outcome). Ends c.args.command (g.T.Texts.relations c.args.texts.now) c.args.bytes.now old old o.status o.report o.fault) (sym c.bare-in-Err-NotJson.ensures)
+    let asked = call c.args.command c.args.depth (g.T.Texts.relations c.args.texts.now) (g.T.Texts.faults c.args.texts.now) (g.T.Texts.faults c.args.texts.now) in
+    subst (λ (o : Outcome). Ends asked c.args.bytes.now old old o.status o.report o.fault) (sym c.bare-in-Err-NotJson.ensures)
     (inl (refl, c.in-Err-NotJson.ensures.no_input c.in-Err-NotJson.field-0-is, (refl, refl, refl)))

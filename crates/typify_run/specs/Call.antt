@@ -1,0 +1,25 @@
+-- What a run was asked, and how its judge of texts stood before it and after.
+use Rattle.std.specs.Prelude.{ℕ, List, Option, Some, None}
+use Rattle.schema_defs.specs.Texts.{Relations}
+use Rattle.typify_run.specs.Words.{command_of, depth_said}
+use Rattle.typify_run.specs.declared.words.Command.{Command}
+
+-- what the words ask for, at which depth; what the judge of texts says, and how often it had failed before, and has by now
+pub record Call : Type 0 where
+  pub command : Command
+  pub depth : ℕ
+  pub texts : Relations
+  pub before : ℕ
+  pub after : ℕ
+
+abbrev pub call : Command → ℕ → Relations → ℕ → ℕ → Call
+call command depth texts before after = record { command = command; depth = depth; texts = texts; before = before; after = after }
+
+-- the depth that is said; 0 where none is
+abbrev pub or_zero : Option ℕ → ℕ
+or_zero None = 0
+or_zero (Some n) = n
+
+-- what the words ask for
+abbrev pub call_of : List (List ℕ) → Relations → ℕ → ℕ → Call
+call_of words texts before after = call (command_of words) (or_zero (depth_said words)) texts before after
