@@ -4,8 +4,8 @@ use Rattle.std.specs.Str.{is_utf8}
 use Rattle.std.proofs.lemmas.Str.{is_utf8-from_IsUtf8}
 use Rattle.std.proofs.lemmas.Slice.Eq.{bytes_eq-Decides}
 use Rattle.naming_defs.specs.Good.{is_good_name, spells_identifier}
-use Rattle.schema_tree.specs.Form as form
-use Rattle.schema_tree.specs.Form.{is_kept_name, is_one_of}
+use Rattle.schema_tree.specs.KeptName as form
+use Rattle.schema_tree.specs.KeptName.{is_kept_name, is_one_of}
 
 same_answers : (a b : Bool) → (a ≡ true → b ≡ true) → (b ≡ true → a ≡ true) → a ≡ b
 same_answers true b f g = sym (f refl)

@@ -1,5 +1,5 @@
-//! Places, names, forms, numbers, schemas that are looked up, values by their lists, and graphs. Each line of standard input is a
-//! word and what it asks about, with tabs between them: `text STEPS`, `name TEXT`, `form SCHEMA`, `numbers VALUE`,
+//! Places, names, numbers, schemas that are looked up, values by their lists, and graphs. Each line of standard input is a
+//! word and what it asks about, with tabs between them: `text STEPS`, `name TEXT`, `numbers VALUE`,
 //! `at STEPS DOCUMENT`, `to REFERENCE DOCUMENT`, `takes SCHEMA VALUE`, or `graph ROWS`. The line is printed, and behind it the
 //! answer.
 #![tactic(auto)]
@@ -10,7 +10,7 @@ mod schema;
 
 use graph::loop_of_rows;
 use place::place_text;
-use schema::{fields_of, looked_up, referred_to, taken};
+use schema::{looked_up, referred_to, taken};
 use schema_tree::{holds_i64_alone, is_kept_name};
 use serde_json::Value;
 use std::alloc::{AllocError, Global};
@@ -38,7 +38,6 @@ fn answer_one(alloc: Global, word: &str, asked: &str) -> Result<String, AllocErr
     match word {
         "text" => place_text(alloc, asked),
         "name" => String::from_str(alloc, said(is_kept_name(asked))),
-        "form" => fields_of(alloc, asked),
         "numbers" => numbers(alloc, asked),
         "graph" => loop_of_rows(alloc, asked),
         _ => String::from_str(alloc, "no case"),

@@ -1,6 +1,6 @@
-//! Schemas of documents: by place and by reference, the values that their lists take, and the fields of the accepted form.
+//! Schemas of documents: by place and by reference, and the values that their lists take.
 use crate::place::place;
-use schema_tree::{Document, FlatField, FlatKind, Schema, read_form, value_validate};
+use schema_tree::{Document, Schema, value_validate};
 use serde_json::Value;
 use std::alloc::{AllocError, Global};
 
@@ -54,28 +54,4 @@ pub fn taken(alloc: Global, text: &str, value: &str) -> Result<String, AllocErro
     }
     let takes = value_validate(&copy, &value);
     String::from_str(alloc, if takes { "yes" } else { "no" })
-}
-
-/// The fields that a schema of the accepted form is read as, or `none`.
-pub fn fields_of(alloc: Global, text: &str) -> Result<String, AllocError> {
-    let Ok(schema) = Value::from_str(alloc, text) else {
-        return String::from_str(alloc, "no JSON");
-    };
-    match read_form(alloc, &schema)? {
-        Some(fields) => fields_text(alloc, &fields),
-        None => String::from_str(alloc, "none"),
-    }
-}
-
-fn fields_text(alloc: Global, fields: &[FlatField]) -> Result<String, AllocError> {
-    let mut shown = String::new(alloc);
-    for field in fields {
-        shown.push_str(&field.name)?;
-        shown.push_str(match field.kind {
-            FlatKind::Text => ":text ",
-            FlatKind::Boolean => ":boolean ",
-            FlatKind::Integer => ":integer ",
-        })?;
-    }
-    Ok(shown)
 }

@@ -4,7 +4,7 @@ use Rattle.std.specs.Char.{encode_utf8}
 use Rattle.std.specs.List.{list_all}
 use Rattle.std.proofs.lemmas.Str.{chars_past_char, chars-nil}
 use Rattle.unicode_ident.specs.Ident.{is_xid_start, is_xid_continue}
-use Rattle.schema_tree.specs.Form.{spells_identifier}
+use Rattle.schema_tree.specs.KeptName.{spells_identifier}
 
 pub all_past : (p : ℕ → Bool) (bs rest : List ℕ) (c : ℕ) → IsUtf8 bs → bs ≡ encode_utf8 c ++ rest → list_all p (chars bs) ≡ (p c && list_all p (chars rest))
 all_past p bs rest c u e = ap (list_all p) (chars_past_char bs rest c u e)

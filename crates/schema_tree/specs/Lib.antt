@@ -1,6 +1,5 @@
 pub mod Fault
-pub mod Form
-pub mod FormView
+pub mod KeptName
 pub mod Numbers
 pub mod Document
 pub mod Conversions

@@ -1,11 +1,10 @@
-//! What the conversion of schemas speaks of: documents read from JSON values, places in them, faults, judges of texts, the
-//! conversion table, and the reader of the one form of schema that is converted so far.
+//! What the conversion of schemas speaks of: documents read from JSON values, places in them, faults, judges of texts and the
+//! conversion table.
 #![tactic(auto)]
 
 mod conversions;
 mod document;
 mod fault;
-mod form;
 mod guarded;
 mod name;
 mod number;
@@ -14,7 +13,6 @@ mod wide;
 
 pub use conversions::{Constraint, Conversions, Rule};
 pub use fault::{Fault, InvalidKind, UnsupportedKind};
-pub use form::{FlatField, FlatKind, read_form};
 pub use guarded::Document;
 pub use json_value::is_whole;
 pub use name::is_kept_name;

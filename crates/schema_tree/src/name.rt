@@ -2,7 +2,7 @@
 ghost use Rattle.std.specs.Prelude.{◌≡◌, ◌||◌, ◌==◌, bytes_eq, chars};
 ghost use Rattle.std.specs.List.{list_any, list_all};
 ghost use Rattle.unicode_ident.specs.Ident.{is_xid_start, is_xid_continue};
-ghost use Rattle.schema_tree.specs.Form.{is_kept_name as is_kept, is_one_of, keywords, primitive_types, spells_identifier};
+ghost use Rattle.schema_tree.specs.KeptName.{is_kept_name as is_kept, is_one_of, keywords, primitive_types, spells_identifier};
 
 const KEYWORDS: [&str; 51] = [
     "abstract", "as", "async", "await", "become", "box", "break", "const", "continue", "crate",
