@@ -14,5 +14,5 @@ pub mod Arms
 pub mod Placing
 pub mod LoopTurns
 pub mod Finishing
-pub mod Sizes
+pub mod Falls
 pub mod Forms

@@ -67,7 +67,7 @@ fn place_atom(space: &mut EntrySpace, led: &Led, atom: &Atom) -> Result<TypeId, 
 }
 
 /// Enters a tree, its parts before it; an item may have been opened before.
-#[tactic(auto, using(crate::proofs::Arms::atom_arm, crate::proofs::Arms::map_arm, crate::proofs::Arms::one_arm, crate::proofs::Arms::tuple_arm, crate::proofs::Sizes::one_falls, crate::proofs::Sizes::keys_fall, crate::proofs::Sizes::values_fall, crate::proofs::Sizes::tuple_falls, crate::proofs::Sizes::fields_fall, crate::proofs::Sizes::rest_falls, crate::proofs::Sizes::variants_fall))]
+#[tactic(auto, using(crate::proofs::Arms::atom_arm, crate::proofs::Arms::map_arm, crate::proofs::Arms::one_arm, crate::proofs::Arms::tuple_arm, crate::proofs::Falls::one_falls, crate::proofs::Falls::keys_fall, crate::proofs::Falls::values_fall, entry_trees::proofs::Sizes::tuple_falls, entry_trees::proofs::Sizes::fields_fall, crate::proofs::Falls::rest_falls, entry_trees::proofs::Sizes::variants_fall))]
 #[cycle(placing)]
 pub(crate) fn place_tree(
     space: &mut EntrySpace,

@@ -5,4 +5,3 @@ pub mod Walks
 pub mod Tables
 pub mod Turns
 pub mod Led
-pub mod Sizes

@@ -12,7 +12,7 @@ use std::alloc::{AllocError, Global};
 
 /// The tree with the names of its items and within them.
 #[cycle(naming)]
-#[tactic(auto, using(crate::proofs::Walks::atom_does, crate::proofs::Walks::map_does, crate::proofs::Walks::tuple_does, crate::proofs::Walks::enum_whole, crate::proofs::Walks::one_whole, crate::proofs::Sizes::one_falls, crate::proofs::Sizes::keys_fall, crate::proofs::Sizes::values_fall, crate::proofs::Sizes::tuple_falls, crate::proofs::Sizes::fields_fall, crate::proofs::Sizes::rest_falls, crate::proofs::Sizes::variants_fall))]
+#[tactic(auto, using(crate::proofs::Walks::atom_does, crate::proofs::Walks::map_does, crate::proofs::Walks::tuple_does, crate::proofs::Walks::enum_whole, crate::proofs::Walks::one_whole, entry_trees::proofs::Sizes::one_falls, entry_trees::proofs::Sizes::keys_fall, entry_trees::proofs::Sizes::values_fall, entry_trees::proofs::Sizes::tuple_falls, entry_trees::proofs::Sizes::fields_fall, entry_trees::proofs::Sizes::rest_falls, entry_trees::proofs::Sizes::variants_fall))]
 pub(crate) fn named_tree<'d>(
     alloc: Global,
     names: &mut GivenNames,
@@ -119,7 +119,7 @@ fn named_one<'d>(
 }
 
 #[cycle(naming)]
-#[tactic(auto, using(crate::proofs::Walks::none_does, crate::proofs::Walks::some_does, crate::proofs::Sizes::tree_in_part))]
+#[tactic(auto, using(crate::proofs::Walks::none_does, crate::proofs::Walks::some_does, entry_trees::proofs::Sizes::tree_in_part))]
 fn named_part<'d>(
     alloc: Global,
     names: &mut GivenNames,

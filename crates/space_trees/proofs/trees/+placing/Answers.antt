@@ -5,7 +5,7 @@ use Rattle.entry_space.specs.Seen.{seen}
 use Rattle.entry_trees.specs.View.{contents_view, tree_view, parts_of}
 use Rattle.space_trees.specs.Placed.{placed, placed_contents}
 use Rattle.space_trees.specs.Leading.{ids_of}
-use Rattle.space_trees.proofs.Sizes.{part_falls, first_falls, case_falls}
+use Rattle.space_trees.proofs.Falls.{part_falls, first_falls, case_falls}
 use Rattle.space_trees.proofs.Arms.{closed_arm, open_arm, enum_arm, tuple_contents_arm, struct_contents_arm}
 use Rattle.space_trees.proofs.trees.+placing.Goals as goal
 

@@ -7,7 +7,7 @@ use Rattle.space_trees.specs.Placed.{placed_variants}
 use Rattle.space_trees.specs.Leading.{ids_of}
 use Rattle.space_trees.specs.Parts.{tree_seen, case_seen, placed_parts}
 use Rattle.space_trees.proofs.PartSteps.{joined}
-use Rattle.space_trees.proofs.Sizes.{tree_size, parts_size, cases_size}
+use Rattle.entry_trees.proofs.Sizes.{tree_size, parts_size, cases_size}
 use Rattle.space_trees.proofs.trees.+placing.Given as goal
 
 abbrev pub decreases-place_tree : goal.decreases-place_tree

@@ -1,4 +1,4 @@
--- How much a tree holds: a measure for what goes down a tree.
+-- How much a tree holds: a measure for what goes down a tree. What is held in it is smaller by one or two more, for calls between.
 use Rattle.std.proofs.Common.{◌≡◌, ◌<◌, ◌+◌, ℕ, zero, suc, List, [], ◌∷◌, map, length, get_or, slice_get, Bool, Option, Some, None, option_map, Box, Vec, Global, rules, refl, sym, ap, ◌∙◌, arith}
 use Rattle.row_types.specs.declared.row.TagRow.{TagRow}
 use Rattle.entry_trees.specs.declared.tree.Label.{Label}
@@ -25,7 +25,7 @@ sum_of (p ∷ ps) = 2 + (held p.1 + sum_of ps)
 
 abbrev rest_in : Option (Label × Box ℕ Global) → ℕ
 rest_in None = 1
-rest_in (Some p) = 1 + p.1.value
+rest_in (Some p) = 3 + p.1.value
 
 abbrev cases_in : List (VariantHead × Sized) → ℕ
 cases_in [] = 1
@@ -33,8 +33,8 @@ cases_in (w ∷ ws) = 3 + (sum_of w.1 + cases_in ws)
 
 abbrev size_step : Tree-F ℕ → ℕ
 size_step (Tree-F.Atom a) = 1
-size_step (Tree-F.One w n) = 1 + n.value
-size_step (Tree-F.Map k n) = 1 + (k.value + n.value)
+size_step (Tree-F.One w n) = 3 + n.value
+size_step (Tree-F.Map k n) = 3 + (k.value + n.value)
 size_step (Tree-F.Tuple ps) = 1 + sum_of ps.items
 size_step (Tree-F.Struct l closed fs rest) = 1 + (sum_of fs.items + rest_in rest)
 size_step (Tree-F.Enum l closed tag ws) = 1 + cases_in (map (λ w. (w.0, w.1.items)) ws.items)
@@ -45,11 +45,14 @@ tree_size = fold-Tree ℕ size_step
 abbrev sizes_of : List (FieldHead × Option Tree) → Sized
 sizes_of ps = map (λ p. (p.0, option_map tree_size p.1)) ps
 
-abbrev part_size : FieldHead × Option Tree → ℕ
+abbrev pub part_size : FieldHead × Option Tree → ℕ
 part_size p = 1 + held (option_map tree_size p.1)
 
 abbrev pub parts_size : List (FieldHead × Option Tree) → ℕ
 parts_size ps = sum_of (sizes_of ps)
+
+abbrev pub case_size : VariantHead × Vec (FieldHead × Option Tree) Global → ℕ
+case_size w = 2 + parts_size w.1.items
 
 abbrev cases_of : List (VariantHead × Vec (FieldHead × Option Tree) Global) → List (VariantHead × Sized)
 cases_of ws = map (λ w. (w.0, sizes_of w.1.items)) ws
@@ -57,16 +60,16 @@ cases_of ws = map (λ w. (w.0, sizes_of w.1.items)) ws
 abbrev pub cases_size : List (VariantHead × Vec (FieldHead × Option Tree) Global) → ℕ
 cases_size ws = cases_in (cases_of ws)
 
-abbrev rest_size : Option (Label × Box Tree Global) → ℕ
+abbrev pub rest_size : Option (Label × Box Tree Global) → ℕ
 rest_size None = 1
-rest_size (Some p) = 1 + tree_size p.1.value
+rest_size (Some p) = 3 + tree_size p.1.value
 
 -- ---- once they are built
 
-one_sized : (w : Wrap) (b : Box Tree Global) → tree_size (trees.One w b) ≡ 1 + tree_size b.value
+one_sized : (w : Wrap) (b : Box Tree Global) → tree_size (trees.One w b) ≡ 3 + tree_size b.value
 one_sized w b = search (rules, the_lemmas)
 
-map_sized : (k v : Box Tree Global) → tree_size (trees.Map k v) ≡ 1 + (tree_size k.value + tree_size v.value)
+map_sized : (k v : Box Tree Global) → tree_size (trees.Map k v) ≡ 3 + (tree_size k.value + tree_size v.value)
 map_sized k v = search (rules, the_lemmas)
 
 tuple_sized : (ps : Vec (FieldHead × Option Tree) Global) → tree_size (trees.Tuple ps) ≡ 1 + parts_size ps.items
@@ -95,13 +98,13 @@ enum_sized l c t ws =
 
 -- ---- what a tree holds is smaller
 
-pub one_falls : (x : Tree) (w : Wrap) (b : Box Tree Global) → x ≡ trees.One w b → tree_size b.value < tree_size x
+pub one_falls : (x : Tree) (w : Wrap) (b : Box Tree Global) → x ≡ trees.One w b → 2 + tree_size b.value < tree_size x
 one_falls x w b e = let h = ap tree_size e ∙ one_sized w b in omega (arith, h)
 
-pub keys_fall : (x : Tree) (k v : Box Tree Global) → x ≡ trees.Map k v → tree_size k.value < tree_size x
+pub keys_fall : (x : Tree) (k v : Box Tree Global) → x ≡ trees.Map k v → 1 + tree_size k.value < tree_size x
 keys_fall x k v e = let h = ap tree_size e ∙ map_sized k v in omega (arith, h)
 
-pub values_fall : (x : Tree) (k v : Box Tree Global) → x ≡ trees.Map k v → tree_size v.value < tree_size x
+pub values_fall : (x : Tree) (k v : Box Tree Global) → x ≡ trees.Map k v → 1 + tree_size v.value < tree_size x
 values_fall x k v e = let h = ap tree_size e ∙ map_sized k v in omega (arith, h)
 
 pub tuple_falls : (x : Tree) (ps : Vec (FieldHead × Option Tree) Global) → x ≡ trees.Tuple ps → parts_size ps.items < tree_size x
@@ -110,35 +113,38 @@ tuple_falls x ps e = let h = ap tree_size e ∙ tuple_sized ps in omega (arith, 
 pub fields_fall : (x : Tree) (l : Label) (c : Bool) (ps : Vec (FieldHead × Option Tree) Global) (r : Option (Label × Box Tree Global)) → x ≡ trees.Struct l c ps r → parts_size ps.items < tree_size x
 fields_fall x l c ps r e = let h = ap tree_size e ∙ struct_sized l c ps r in omega (arith, h)
 
-pub rest_falls : (x : Tree) (l : Label) (c : Bool) (ps : Vec (FieldHead × Option Tree) Global) (r : Option (Label × Box Tree Global)) (p : Label × Box Tree Global) → x ≡ trees.Struct l c ps r → r ≡ Some p
-    → tree_size p.1.value < tree_size x
-rest_falls x l c ps r p e some = let h = ap tree_size e ∙ struct_sized l c ps r in let k : rest_size r ≡ 1 + tree_size p.1.value = ap rest_size some in omega (arith, h, k)
+pub rest_falls : (x : Tree) (l : Label) (c : Bool) (ps : Vec (FieldHead × Option Tree) Global) (r : Option (Label × Box Tree Global)) → x ≡ trees.Struct l c ps r → rest_size r < tree_size x
+rest_falls x l c ps r e = let h = ap tree_size e ∙ struct_sized l c ps r in omega (arith, h)
 
 pub variants_fall : (x : Tree) (l : Label) (c : Bool) (t : TagRow) (ws : Vec (VariantHead × Vec (FieldHead × Option Tree) Global) Global) → x ≡ trees.Enum l c t ws → cases_size ws.items < tree_size x
 variants_fall x l c t ws e = let h = ap tree_size e ∙ enum_sized l c t ws in omega (arith, h)
 
-tree-in-part : (p : FieldHead × Option Tree) (e : Tree) → p.1 ≡ Some e → tree_size e < part_size p
-tree-in-part p e q = let h : held (option_map tree_size p.1) ≡ tree_size e = ap (λ (o : Option Tree). held (option_map tree_size o)) q in omega (arith, h)
+pub tree_in_part : (p : FieldHead × Option Tree) (e : Tree) → p.1 ≡ Some e → tree_size e < part_size p
+tree_in_part p e q = let h : held (option_map tree_size p.1) ≡ tree_size e = ap (λ (o : Option Tree). held (option_map tree_size o)) q in omega (arith, h)
 
-part-in : (ps : List (FieldHead × Option Tree)) (i : ℕ) (p : FieldHead × Option Tree) → i < length ps → p ≡ get_or ps i p → part_size p < parts_size ps
-part-in [] i p h e = absurd (omega (arith, h))
-part-in (q ∷ ps) zero p h e = let s : part_size p ≡ part_size q = ap part_size e in omega (arith, s)
-part-in (q ∷ ps) (suc i) p h e = let k = part-in ps i p (omega (arith, h)) e in omega (arith, k)
+pub box_in_rest : (r : Option (Label × Box Tree Global)) (l : Label) (b : Box Tree Global) → r ≡ Some (l, b) → 1 + tree_size b.value < rest_size r
+box_in_rest r l b q = let h : rest_size r ≡ 3 + tree_size b.value = ap rest_size q in omega (arith, h)
 
-pub part_falls : (ps all : List (FieldHead × Option Tree)) (i : ℕ) (p : FieldHead × Option Tree) (e : Tree) → ps ≡ all → i < length ps → p ≡ get_or ps i p → p.1 ≡ Some e → tree_size e < parts_size all
-part_falls ps all i p e same h q some = let k = part-in ps i p h q in let m = tree-in-part p e some in let s = ap parts_size same in omega (arith, k, m, s)
+part_in : (ps : List (FieldHead × Option Tree)) (i : ℕ) (p : FieldHead × Option Tree) → i < length ps → p ≡ get_or ps i p → part_size p < parts_size ps
+part_in [] i p h e = absurd (omega (arith, h))
+part_in (q ∷ ps) zero p h e = let s : part_size p ≡ part_size q = ap part_size e in omega (arith, s)
+part_in (q ∷ ps) (suc i) p h e = let k = part_in ps i p (omega (arith, h)) e in omega (arith, k)
 
-front-in : (ps : List (FieldHead × Option Tree)) (p : FieldHead × Option Tree) → slice_get ps 0 ≡ Some p → part_size p < parts_size ps
-front-in [] p e = absurd (cc)
-front-in (q ∷ ps) p e = let same : p ≡ q = cc in let s : part_size p ≡ part_size q = ap part_size same in omega (arith, s)
+pub part_in_parts : (ps all : List (FieldHead × Option Tree)) (i : ℕ) (p : FieldHead × Option Tree) → ps ≡ all → i < length ps → p ≡ get_or ps i p → part_size p < parts_size all
+part_in_parts ps all i p same h e = let k = part_in ps i p h e in let s = ap parts_size same in omega (arith, k, s)
 
-pub first_falls : (ps all : List (FieldHead × Option Tree)) (p : FieldHead × Option Tree) (e : Tree) → ps ≡ all → Some p ≡ slice_get ps 0 → p.1 ≡ Some e → tree_size e < parts_size all
-first_falls ps all p e same h some = let k = front-in ps p (sym h) in let m = tree-in-part p e some in let s = ap parts_size same in omega (arith, k, m, s)
+case_in_list : (ws : List (VariantHead × Vec (FieldHead × Option Tree) Global)) (i : ℕ) (w : VariantHead × Vec (FieldHead × Option Tree) Global) → i < length ws → w ≡ get_or ws i w → case_size w < cases_size ws
+case_in_list [] i w h e = absurd (omega (arith, h))
+case_in_list (v ∷ ws) zero w h e = let s : case_size w ≡ case_size v = ap case_size e in omega (arith, s)
+case_in_list (v ∷ ws) (suc i) w h e = let k = case_in_list ws i w (omega (arith, h)) e in omega (arith, k)
 
-case-in : (ws : List (VariantHead × Vec (FieldHead × Option Tree) Global)) (i : ℕ) (w : VariantHead × Vec (FieldHead × Option Tree) Global) → i < length ws → w ≡ get_or ws i w → 2 + parts_size w.1.items < cases_size ws
-case-in [] i w h e = absurd (omega (arith, h))
-case-in (v ∷ ws) zero w h e = let s : parts_size w.1.items ≡ parts_size v.1.items = ap (λ (x : VariantHead × Vec (FieldHead × Option Tree) Global). parts_size x.1.items) e in omega (arith, s)
-case-in (v ∷ ws) (suc i) w h e = let k = case-in ws i w (omega (arith, h)) e in omega (arith, k)
+pub case_in_cases : (ws all : List (VariantHead × Vec (FieldHead × Option Tree) Global)) (i : ℕ) (w : VariantHead × Vec (FieldHead × Option Tree) Global) → ws ≡ all → i < length ws → w ≡ get_or ws i w
+    → case_size w < cases_size all
+case_in_cases ws all i w same h e = let k = case_in_list ws i w h e in let s = ap cases_size same in omega (arith, k, s)
 
-pub case_falls : (ws all : List (VariantHead × Vec (FieldHead × Option Tree) Global)) (i : ℕ) (w : VariantHead × Vec (FieldHead × Option Tree) Global) → ws ≡ all → i < length ws → w ≡ get_or ws i w → 2 + parts_size w.1.items < cases_size all
-case_falls ws all i w same h e = let k = case-in ws i w h e in let s = ap cases_size same in omega (arith, k, s)
+front_in : (ps : List (FieldHead × Option Tree)) (p : FieldHead × Option Tree) → slice_get ps 0 ≡ Some p → part_size p < parts_size ps
+front_in [] p e = absurd (cc)
+front_in (q ∷ ps) p e = let same : p ≡ q = cc in let s : part_size p ≡ part_size q = ap part_size same in omega (arith, s)
+
+pub front_in_parts : (ps all : List (FieldHead × Option Tree)) (p : FieldHead × Option Tree) → ps ≡ all → slice_get ps 0 ≡ Some p → part_size p < parts_size all
+front_in_parts ps all p same e = let k = front_in ps p e in let s = ap parts_size same in omega (arith, k, s)
