@@ -8,11 +8,11 @@ use Rattle.schema_defs.specs.Laws.{NamesRise}
 use Rattle.schema_defs.proofs.Stand.{first_in, rest_in}
 use Rattle.entry_defs.specs.Entry.{definition}
 use Rattle.entry_defs.specs.Table.{TargetEntry, ItemEntry}
-use Rattle.convert_defs.specs.Row.{Note}
 use Rattle.convert_defs.specs.Convert.{Node, as_item, definition_entry, definition_target, definition_tree, definition_trees, raw_entry, tree}
 use Rattle.schema_tree.specs.Fault.{FaultD}
 use Rattle.root_references.proofs.Found.{found, stands_at}
 use Rattle.convert_trees.specs.Tables.{is_under_defs}
+use Rattle.convert_trees.specs.Keeping.{KeptD}
 use Rattle.convert_trees.specs.Told.{IsTold, Refuses, by_none, by_fault, RefusesAll, by_want, by_node}
 use Rattle.convert_trees.proofs.Telling.{Passed, passed_none, passed_on, passed_all, passed_refuses}
 
@@ -21,24 +21,24 @@ module _ (r : Relations) (d : Document) (most : ℕ) where
   targets_from es = map (definition_target r d most) es
 
   -- the definitions that are left, by their names
-  pub record Left (names : List (List ℕ)) (targets : List TargetEntry) (old new : List Note) : Type 0 where
+  pub record Left (names : List (List ℕ)) (targets : List TargetEntry) (old new : KeptD) : Type 0 where
     pub rest : List Definition
     pub names_are : names ≡ map (λ e. e.name) rest
     pub among : (e : Definition) → Contains rest e → Contains d.definitions e
     pub targets_are : targets ++ targets_from rest ≡ targets_from d.definitions
     pub told : Passed r d most (definition_trees r d most d.definitions) (definition_trees r d most rest) old new
 
-  pub left_all : (ns : List Note) (names : List (List ℕ)) (targets : List TargetEntry) → names ≡ map (λ e. e.name) d.definitions → targets ≡ [] → Left names targets ns ns
-  left_all ns names targets e g = record {
+  pub left_all : (k : KeptD) (names : List (List ℕ)) (targets : List TargetEntry) → names ≡ map (λ e. e.name) d.definitions → targets ≡ [] → Left names targets k k
+  left_all k names targets e g = record {
     rest = d.definitions;
     names_are = e;
     among = λ x c. c;
     targets_are = ap (λ ts. ts ++ targets_from d.definitions) g;
-    told = passed_none r d most (definition_trees r d most d.definitions) ns;
+    told = passed_none r d most (definition_trees r d most d.definitions) k;
   }
 
   -- the first of those that are left
-  pub record First (n : List ℕ) (names : List (List ℕ)) (targets : List TargetEntry) (old new : List Note) : Type 0 where
+  pub record First (n : List ℕ) (names : List (List ℕ)) (targets : List TargetEntry) (old new : KeptD) : Type 0 where
     pub here : Definition
     pub name_is : here.name ≡ n
     pub stands : Contains d.definitions here
@@ -48,7 +48,7 @@ module _ (r : Relations) (d : Document) (most : ℕ) where
     pub targets_are : targets ++ targets_from (here ∷ behind) ≡ targets_from d.definitions
     pub told : Passed r d most (definition_trees r d most d.definitions) (definition_tree r d most here ++ definition_trees r d most behind) old new
 
-  first_of : (rest : List Definition) (n : List ℕ) (names : List (List ℕ)) (targets : List TargetEntry) (old new : List Note)
+  first_of : (rest : List Definition) (n : List ℕ) (names : List (List ℕ)) (targets : List TargetEntry) (old new : KeptD)
       → n ∷ names ≡ map (λ e. e.name) rest → ((e : Definition) → Contains rest e → Contains d.definitions e) → targets ++ targets_from rest ≡ targets_from d.definitions
       → Passed r d most (definition_trees r d most d.definitions) (definition_trees r d most rest) old new → First n names targets old new
   first_of [] n names targets old new e a t p = absurd (cc)
@@ -63,11 +63,11 @@ module _ (r : Relations) (d : Document) (most : ℕ) where
     told = p;
   }
 
-  pub first_left : (n : List ℕ) (names : List (List ℕ)) (targets : List TargetEntry) (old new : List Note) → Left (n ∷ names) targets old new → First n names targets old new
+  pub first_left : (n : List ℕ) (names : List (List ℕ)) (targets : List TargetEntry) (old new : KeptD) → Left (n ∷ names) targets old new → First n names targets old new
   first_left n names targets old new l = first_of l.rest n names targets old new l.names_are l.among l.targets_are l.told
 
   -- what is told of it, by its name
-  module _ (rise : NamesRise (map (λ e. e.name) d.definitions)) (n : List ℕ) (names : List (List ℕ)) (targets : List TargetEntry) (old new : List Note) (f : First n names targets old new) where
+  module _ (rise : NamesRise (map (λ e. e.name) d.definitions)) (n : List ℕ) (names : List (List ℕ)) (targets : List TargetEntry) (old new : KeptD) (f : First n names targets old new) where
     pub body_of : (s : Schema) → Some s ≡ option_map (λ (e : Definition). e.body) (defined n d.definitions) → s ≡ f.here.body
     body_of s e =
         let k : Some s ≡ Some f.here.body = e ∙ ap (λ n. option_map (λ (e : Definition). e.body) (defined n d.definitions)) (sym f.name_is) ∙ ap (option_map (λ (e : Definition). e.body)) (found d.definitions rise f.here f.stands) in
@@ -79,7 +79,7 @@ module _ (r : Relations) (d : Document) (most : ℕ) where
     tree_is : (s : Schema) → s ≡ f.here.body → tree r d (suc most) (Some n) (definition_word (is_under_defs d n) ∷ n ∷ []) s ≡ definition_tree r d most f.here
     tree_is s e = λ i. tree r d (suc most) (Some (sym f.name_is i)) (place_is i) (e i)
 
-    pub goes_on : (s : Schema) (item : ItemEntry) (later : List Note) (targets' : List TargetEntry) → s ≡ f.here.body → item ≡ as_item n (raw_entry r d (suc most) (Some n) s)
+    pub goes_on : (s : Schema) (item : ItemEntry) (later : KeptD) (targets' : List TargetEntry) → s ≡ f.here.body → item ≡ as_item n (raw_entry r d (suc most) (Some n) s)
         → targets' ≡ targets ++ record { target = definition n; led_to = item } ∷ []
         → IsTold r d most (tree r d (suc most) (Some n) (definition_word (is_under_defs d n) ∷ n ∷ []) s) new later → Left names targets' old later
     goes_on s item later targets' e i g t =
@@ -106,14 +106,14 @@ module _ (r : Relations) (d : Document) (most : ℕ) where
 
   -- ---- the root behind the definitions
 
-  pub all_done : (names : List (List ℕ)) (targets : List TargetEntry) (old new : List Note) → names ≡ [] → Left names targets old new → targets ≡ targets_from d.definitions
+  pub all_done : (names : List (List ℕ)) (targets : List TargetEntry) (old new : KeptD) → names ≡ [] → Left names targets old new → targets ≡ targets_from d.definitions
   all_done names targets old new e l = none_left l.rest (sym e ∙ l.names_are) l.targets_are
     where
       none_left : (rest : List Definition) → [] ≡ map (λ e. e.name) rest → targets ++ targets_from rest ≡ targets_from d.definitions → targets ≡ targets_from d.definitions
       none_left [] e t = sym (append-nil targets) ∙ t
       none_left (x ∷ xs) e t = absurd (cc)
 
-  pub all_told : (names : List (List ℕ)) (targets : List TargetEntry) (old new : List Note) → names ≡ [] → Left names targets old new → IsTold r d most (definition_trees r d most d.definitions) old new
+  pub all_told : (names : List (List ℕ)) (targets : List TargetEntry) (old new : KeptD) → names ≡ [] → Left names targets old new → IsTold r d most (definition_trees r d most d.definitions) old new
   all_told names targets old new e l = none_left l.rest (sym e ∙ l.names_are) l.told
     where
       none_left : (rest : List Definition) → [] ≡ map (λ e. e.name) rest → Passed r d most (definition_trees r d most d.definitions) (definition_trees r d most rest) old new → IsTold r d most (definition_trees r d most d.definitions) old new

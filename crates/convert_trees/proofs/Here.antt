@@ -6,7 +6,7 @@ use Rattle.schema_defs.specs.Location.{Location}
 use Rattle.schema_defs.specs.Texts.{Relations}
 use Rattle.schema_defs.specs.Schema.{Schema, Document}
 use Rattle.entry_defs.specs.Entry.{Entry}
-use Rattle.convert_defs.specs.Row.{Part, Note, Finding, row_parts}
+use Rattle.convert_defs.specs.Row.{Row, Part, Finding, row_parts}
 use Rattle.convert_defs.specs.Table.{finding_of}
 use Rattle.convert_defs.specs.Convert.{Handed, Node, cut_branches, placed, named_by, most_made, tree, inner_tree}
 use Rattle.convert_defs.specs.Faults.{finding_faults}
@@ -14,8 +14,9 @@ use Rattle.schema_tree.specs.Fault.{FaultD, memory}
 use Rattle.row_trees.specs.Build.{built}
 use Rattle.convert_trees.specs.Nodes.{entry_at, nodes_at, parts_nodes, converted}
 use Rattle.convert_trees.specs.Places.{TellsDepth}
+use Rattle.convert_trees.specs.Keeping.{KeptD}
 use Rattle.convert_trees.specs.Told as told
-use Rattle.convert_trees.specs.Told.{NoAnswer, RefusesBy, IsTold, Tells, Refuses, by_none, by_fault}
+use Rattle.convert_trees.specs.Told.{NoAnswer, RefusesBy, IsTold, IsToldOf, Tells, Refuses, by_none, by_fault}
 use Rattle.convert_trees.proofs.Telling.{own_refuses, branch_refuses, parts_refuse, told_whole, refuses_deep}
 use Rattle.convert_trees.proofs.Entering.{built_here, entered_nodes, passed_nodes}
 
@@ -68,15 +69,17 @@ module _ (r : Relations) (d : Document) (most : ℕ) (n made : ℕ) (h : Handed)
       (subst (λ (ps : List Part). Refuses r d most start old new (parts_nodes r d n (made - 1) h l ps) f) (p ∙ ap (λ (fd : Finding). row_parts fd.row) e)
       (subst (λ (r : Relations). Refuses r d most start old new (parts_nodes r d n (made - 1) h l ps) f) q k))))
 
-  pub told_here : (r' : Relations) (j k o : List Note) (ps : List Part) → (made ≡ 0 → ⊥) → fd ≡ finding_of r d s → finding_faults r d most fd ≡ []
-      → cut_branches n l fd.branches ≡ [] → k ≡ j ++ placed l fd.notes → ps ≡ row_parts fd.row → r' ≡ r
-      → IsTold r' d most (parts_nodes r' d n (made - 1) h l ps) k o → IsTold r d most (nodes_at r d n made h l s) j o
-  told_here r' j k o ps m e g b a p q t =
+  pub told_here : (r' : Relations) (j k o : KeptD) (w : Row) (e : Entry) → (made ≡ 0 → ⊥) → fd ≡ finding_of r d s → finding_faults r d most fd ≡ []
+      → cut_branches n l fd.branches ≡ [] → k.notes ≡ j.notes ++ placed l fd.notes → k.unread ≡ j.unread → w ≡ fd.row → r' ≡ r → e ≡ entry_at r d n made h s
+      → IsToldOf r' d most l w e (parts_nodes r' d n (made - 1) h l (row_parts w)) k o → IsTold r d most (nodes_at r d n made h l s) j o
+  told_here r' j k o w e m g f b a u p q is t =
+      let at : e ≡ entry_at r d n (suc (made - 1)) h s = is ∙ ap (λ i. entry_at r d n i h s) (sym (one_more made m)) in
       subst (λ (i : ℕ). IsTold r d most (nodes_at r d n i h l s) j o) (one_more made m)
-      (told_whole r d most n (made - 1) h l s j k o (ap (finding_faults r d most) (sym e) ∙ g) (ap (λ (fd : Finding). cut_branches n l fd.branches) (sym e) ∙ b)
-      (a ∙ ap (λ (fd : Finding). j ++ placed l fd.notes) e)
-      (subst (λ (ps : List Part). IsTold r d most (parts_nodes r d n (made - 1) h l ps) k o) (p ∙ ap (λ (fd : Finding). row_parts fd.row) e)
-      (subst (λ (r : Relations). IsTold r d most (parts_nodes r d n (made - 1) h l ps) k o) q t)))
+      (told_whole r d most n (made - 1) h l s j k o (ap (finding_faults r d most) (sym g) ∙ f) (ap (λ (fd : Finding). cut_branches n l fd.branches) (sym g) ∙ b)
+      (a ∙ ap (λ (fd : Finding). j.notes ++ placed l fd.notes) g) u
+      (subst (λ (e : Entry). IsToldOf r d most l (finding_of r d s).row e (parts_nodes r d n (made - 1) h l (row_parts (finding_of r d s).row)) k o) at
+      (subst (λ (w : Row). IsToldOf r d most l w e (parts_nodes r d n (made - 1) h l (row_parts w)) k o) (p ∙ ap (λ (fd : Finding). fd.row) g)
+      (subst (λ (r : Relations). IsToldOf r d most l w e (parts_nodes r d n (made - 1) h l (row_parts w)) k o) q t))))
 
   pub entry_here : (r' : Relations) (e : Entry) (es : List Entry) (ps : List Part) → (made ≡ 0 → ⊥) → fd ≡ finding_of r d s → ps ≡ row_parts fd.row → r' ≡ r
       → es ≡ map (converted r' d n (made - 1) h) ps → e ≡ built (named_by h s) fd.row es → e ≡ entry_at r d n made h s
@@ -95,18 +98,18 @@ module _ (r : Relations) (d : Document) (most n : ℕ) (h : Handed) (l : Locatio
   pub on_refuses : (start : Location) (f : FaultD) (old new : ℕ) → (n ≡ 0 → ⊥) → Refuses r d most start old new (nodes_at r d (n - 1) most_made h l s) f → Refuses r d most start old new (tree r d n h l s) f
   on_refuses start f old new m k = subst (λ (ts : List Node). Refuses r d most start old new ts f) (sym (entered_nodes r d h s n l m)) k
 
-  pub on_told : (j k : List Note) → (n ≡ 0 → ⊥) → IsTold r d most (nodes_at r d (n - 1) most_made h l s) j k → IsTold r d most (tree r d n h l s) j k
+  pub on_told : (j k : KeptD) → (n ≡ 0 → ⊥) → IsTold r d most (nodes_at r d (n - 1) most_made h l s) j k → IsTold r d most (tree r d n h l s) j k
   on_told j k m t = subst (λ (ts : List Node). IsTold r d most ts j k) (sym (entered_nodes r d h s n l m)) t
 
   pub inner_refuses : (start : Location) (f : FaultD) (old new : ℕ) → (n ≡ 0 → ⊥) → Refuses r d most start old new (tree r d (n - 1) h l s) f → Refuses r d most start old new (inner_tree r d n h l s) f
   inner_refuses start f old new m k = subst (λ (ts : List Node). Refuses r d most start old new ts f) (sym (passed_nodes r d h s n l m)) k
 
-  pub inner_told : (j k : List Note) → (n ≡ 0 → ⊥) → IsTold r d most (tree r d (n - 1) h l s) j k → IsTold r d most (inner_tree r d n h l s) j k
+  pub inner_told : (j k : KeptD) → (n ≡ 0 → ⊥) → IsTold r d most (tree r d (n - 1) h l s) j k → IsTold r d most (inner_tree r d n h l s) j k
   inner_told j k m t = subst (λ (ts : List Node). IsTold r d most ts j k) (sym (passed_nodes r d h s n l m)) t
 
 -- at the place behind the steps
 module _ (r : Relations) (d : Document) (most : ℕ) (nodes : Location → List Node) (l l' : Location) where
-  pub told_moved : (j k : List Note) → l' ≡ l → IsTold r d most (nodes l') j k → IsTold r d most (nodes l) j k
+  pub told_moved : (j k : KeptD) → l' ≡ l → IsTold r d most (nodes l') j k → IsTold r d most (nodes l) j k
   told_moved j k e t = subst (λ (l : Location). IsTold r d most (nodes l) j k) e t
 
   pub refuses_moved : (start : Location) (f : FaultD) (old new : ℕ) → l' ≡ l → Refuses r d most start old new (nodes l') f → Refuses r d most start old new (nodes l) f

@@ -9,4 +9,6 @@ pub mod Odd
 pub mod Parts
 pub mod Roots
 pub mod Telling
+pub mod Ruled
+pub mod Rows
 pub mod Walked

@@ -4,13 +4,14 @@ use Rattle.schema_defs.specs.Location.{Location}
 use Rattle.schema_defs.specs.Texts.{Relations}
 use Rattle.schema_defs.specs.Schema.{Document}
 use Rattle.entry_defs.specs.Entry.{Entry}
-use Rattle.convert_defs.specs.Row.{Part, Note}
+use Rattle.convert_defs.specs.Row.{Part}
 use Rattle.convert_defs.specs.Convert.{Handed, Node}
 use Rattle.row_types.specs.View.{part_view}
 use Rattle.schema_tree.specs.Fault.{FaultD}
 use Rattle.convert_trees.specs.declared.listed.Listed.{Listed}
 use Rattle.convert_trees.specs.Listed.{listed_view}
 use Rattle.convert_trees.specs.Nodes.{converted, part_nodes, parts_nodes}
+use Rattle.convert_trees.specs.Keeping.{KeptD}
 use Rattle.convert_trees.specs.Told.{IsTold, Refuses}
 use Rattle.convert_trees.proofs.Here.{entries_turn, refuses_from}
 use Rattle.convert_trees.proofs.Telling.{Passed, passed_on, passed_end, passed_refuses}
@@ -36,20 +37,20 @@ module _ (r : Relations) (d : Document) (most n made : ℕ) (h : Handed) (l : Lo
   abbrev left_nodes : ℕ → List Node
   left_nodes i = parts_nodes r d n made h l (listed_view (drop i ps))
 
-  opened : (q : Listed) (first j : List Note) → i < length ps → q ≡ get_or ps i q → Passed r d most whole_nodes (left_nodes i) first j
+  opened : (q : Listed) (first j : KeptD) → i < length ps → q ≡ get_or ps i q → Passed r d most whole_nodes (left_nodes i) first j
       → Passed r d most whole_nodes (part_nodes r d n made h l (part_view q.part.now) ++ left_nodes (i + 1)) first j
   opened q first j w at p = subst (λ (qs : List Part). Passed r d most whole_nodes (parts_nodes r d n made h l qs) first j) (next_seen ps i q w at) p
 
-  pub told_next : (q : Listed) (first j k : List Note) → i < length ps → q ≡ get_or ps i q → Passed r d most whole_nodes (left_nodes i) first j
+  pub told_next : (q : Listed) (first j k : KeptD) → i < length ps → q ≡ get_or ps i q → Passed r d most whole_nodes (left_nodes i) first j
       → IsTold r' d most (part_nodes r' d n made h l (part_view q.part.now)) j k → Passed r d most whole_nodes (left_nodes (i + 1)) first k
   told_next q first j k w at p t =
       passed_on r d most whole_nodes (part_nodes r d n made h l (part_view q.part.now)) (left_nodes (i + 1)) first j k (opened q first j w at p)
       (subst (λ (r : Relations). IsTold r d most (part_nodes r d n made h l (part_view q.part.now)) j k) same t)
 
-  pub told_all : (first j : List Note) → length ps ≤ i → Passed r d most whole_nodes (left_nodes i) first j → IsTold r d most whole_nodes first j
+  pub told_all : (first j : KeptD) → length ps ≤ i → Passed r d most whole_nodes (left_nodes i) first j → IsTold r d most whole_nodes first j
   told_all first j w p = passed_end r d most whole_nodes (left_nodes i) first j (ap (λ qs. parts_nodes r d n made h l (listed_view qs)) (drop_past ps i w)) p
 
-  pub part_refuses : (q : Listed) (first j : List Note) (start : Location) (f : FaultD) (a b c : ℕ) → i < length ps → q ≡ get_or ps i q → Passed r d most whole_nodes (left_nodes i) first j → a ≤ b
+  pub part_refuses : (q : Listed) (first j : KeptD) (start : Location) (f : FaultD) (a b c : ℕ) → i < length ps → q ≡ get_or ps i q → Passed r d most whole_nodes (left_nodes i) first j → a ≤ b
       → Refuses r' d most start b c (part_nodes r' d n made h l (part_view q.part.now)) f → Refuses r d most start a c whole_nodes f
   part_refuses q first j start f a b c w at p u k =
       refuses_from r d most start whole_nodes f a b c u

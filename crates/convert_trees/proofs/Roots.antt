@@ -1,12 +1,11 @@
 -- A document: its definitions, and its root behind them.
-use Rattle.std.specs.Prelude.{Some}
+use Rattle.std.specs.Prelude.{Some, None}
 use Rattle.std.proofs.Common.{◌≡◌, ℕ, suc, ◌≤◌, List, [], ◌∷◌, ◌++◌, Bool, true, false, map, refl, sym, ap, subst, ◌∙◌, inl, append-nil}
 use Rattle.schema_defs.specs.Location.{Location}
 use Rattle.schema_defs.specs.Texts.{Relations}
 use Rattle.schema_defs.specs.Schema.{Schema, Document}
 use Rattle.entry_defs.specs.Entry.{Entry}
 use Rattle.entry_defs.specs.Table.{Table, TargetEntry}
-use Rattle.convert_defs.specs.Row.{Note}
 use Rattle.convert_defs.specs.Convert.{Node, definition_target, definition_trees, document_tree, notes_in, raw_entry, root_entry, root_name, root_targets, root_tree, root_use, table_of, tree}
 use Rattle.convert_defs.specs.Faults.{faults_of}
 use Rattle.convert_defs.specs.RootReference.{refers_to_root}
@@ -15,6 +14,8 @@ use Rattle.schema_tree.specs.Fault.{FaultD, memory}
 use Rattle.convert_trees.specs.Places.{place_at}
 use Rattle.convert_trees.specs.Tables.{root_targets_of, root_use_of}
 use Rattle.convert_trees.specs.Told as told
+use Rattle.convert_trees.specs.Unread.{first_kept, unread_in_document}
+use Rattle.convert_trees.specs.Keeping.{KeptD}
 use Rattle.convert_trees.specs.Told.{IsTold, Tells, Refuses, by_none, by_fault, RefusesAll, by_want, by_node}
 use Rattle.convert_trees.proofs.Here.{refuses_from}
 use Rattle.convert_trees.proofs.Telling.{told_both, refuses_first, refuses_second}
@@ -30,14 +31,17 @@ module _ (r : Relations) (d : Document) (most : ℕ) where
   abbrev definitions_told : List Node
   definitions_told = definition_trees r d most d.definitions
 
-  pub all_told : (j k l : List Note) (r' : Relations) → r' ≡ r → IsTold r d most definitions_told j k → IsTold r' d most (root_tree r' d most) k l → IsTold r d most (document_tree r d most) j l
+  pub all_told : (j k l : KeptD) (r' : Relations) → r' ≡ r → IsTold r d most definitions_told j k → IsTold r' d most (root_tree r' d most) k l → IsTold r d most (document_tree r d most) j l
   all_told j k l r' e x y = told_both r d most definitions_told (root_tree r d most) j k l x (subst (λ (r : Relations). IsTold r d most (root_tree r d most) k l) e y)
 
-  pub is_faultless : (j l : List Note) → IsTold r d most (document_tree r d most) j l → faults_of r d most ≡ []
+  pub is_faultless : (j l : KeptD) → IsTold r d most (document_tree r d most) j l → faults_of r d most ≡ []
   is_faultless j l t = t.faultless
 
-  pub all_notes : (j l : List Note) → j ≡ [] → IsTold r d most (document_tree r d most) j l → l ≡ notes_in r d (document_tree r d most)
+  pub all_notes : (j l : KeptD) → j.notes ≡ [] → IsTold r d most (document_tree r d most) j l → l.notes ≡ notes_in r d (document_tree r d most)
   all_notes j l e t = t.notes ∙ ap (λ ns. ns ++ notes_in r d (document_tree r d most)) e
+
+  pub all_unread : (j l : KeptD) → j.unread ≡ None → IsTold r d most (document_tree r d most) j l → l.unread ≡ first_kept None (unread_in_document r d most)
+  all_unread j l e t = t.unread ∙ ap (λ o. first_kept o (unread_in_document r d most)) e
 
   module _ (f : FaultD) (old new : ℕ) where
     pub want_all : (ts : List Node) → f ≡ memory → RefusesAll r d most old new ts f
@@ -51,7 +55,7 @@ module _ (r : Relations) (d : Document) (most : ℕ) where
         of_whole (by_none k) = by_want k
         of_whole (by_fault u) = by_node start s u
 
-    pub root_refuses : (r' : Relations) (first : ℕ) (j k : List Note) → r' ≡ r → first ≤ old → IsTold r d most definitions_told j k → Refuses r' d most [] old new (root_tree r' d most) f
+    pub root_refuses : (r' : Relations) (first : ℕ) (j k : KeptD) → r' ≡ r → first ≤ old → IsTold r d most definitions_told j k → Refuses r' d most [] old new (root_tree r' d most) f
         → RefusesAll r d most first new (document_tree r d most) f
     root_refuses r' first j k e h t w =
         of_whole (refuses_second r d most [] f first new definitions_told (root_tree r d most) t.faultless
@@ -72,7 +76,7 @@ module _ (r : Relations) (d : Document) (most : ℕ) where
     nodes_so : (l : Location) → l ≡ [] → tree r d (suc most) (Some n) l s ≡ root_tree r d most
     nodes_so l e = λ i. tree r d (suc most) (Some (named_so i)) (e i) (a i)
 
-    pub root_told : (l : Location) (j k : List Note) → l ≡ [] → IsTold r d most (tree r d (suc most) (Some n) l s) j k → IsTold r d most (root_tree r d most) j k
+    pub root_told : (l : Location) (j k : KeptD) → l ≡ [] → IsTold r d most (tree r d (suc most) (Some n) l s) j k → IsTold r d most (root_tree r d most) j k
     root_told l j k e t = subst (λ (ts : List Node). IsTold r d most ts j k) (nodes_so l e) t
 
     pub root_refused : (l start : Location) (f : FaultD) (old new : ℕ) → l ≡ [] → start ≡ [] → Refuses r d most start old new (tree r d (suc most) (Some n) l s) f → Refuses r d most [] old new (root_tree r d most) f

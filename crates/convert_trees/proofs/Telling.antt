@@ -1,9 +1,9 @@
 -- What is told of nodes one after another.
-use Rattle.std.proofs.Common.{◌≡◌, ℕ, suc, ◌+◌, List, [], ◌∷◌, ◌++◌, false, refl, sym, ap, subst, ◌∙◌, append_assoc, append-nil}
+use Rattle.std.proofs.Common.{◌≡◌, ℕ, suc, ◌+◌, List, [], ◌∷◌, ◌++◌, Bool, false, Option, Some, None, is_some, refl, sym, ap, subst, ◌∙◌, append_assoc, append-nil}
 use Rattle.schema_defs.specs.Location.{Location}
 use Rattle.schema_defs.specs.Texts.{Relations}
 use Rattle.schema_defs.specs.Schema.{Schema, Document}
-use Rattle.convert_defs.specs.Row.{Note, row_parts}
+use Rattle.convert_defs.specs.Row.{row_parts}
 use Rattle.convert_defs.specs.Table.{finding_of, row_of, notes_at}
 use Rattle.convert_defs.specs.Convert.{Handed, Node, cut_node, cut_branches, placed, notes_in}
 use Rattle.convert_defs.specs.Faults.{finding_faults, faults_in, node_faults}
@@ -11,11 +11,30 @@ use Rattle.convert_defs.specs.Faults as faults
 use Rattle.schema_tree.specs.Fault.{FaultD}
 use Rattle.convert_trees.specs.Nodes.{entry_at, nodes_at, parts_nodes}
 use Rattle.convert_trees.specs.Places.{IsWalkTo, TellsDepth, no_memory, walked}
+use Rattle.convert_trees.specs.Unread.{At, unread_of, unread_listed, first_kept, first_before_if}
+use Rattle.convert_trees.specs.Keeping.{KeptD}
 use Rattle.convert_trees.specs.Told as told
-use Rattle.convert_trees.specs.Told.{NoAnswer, RefusesBy, unanswered, by_cause, IsTold, TellsOf, of_depth, of_cause, Tells, Refuses, by_none, by_fault}
+use Rattle.convert_trees.specs.Told.{NoAnswer, RefusesBy, unanswered, by_cause, IsTold, IsToldOf, TellsOf, of_depth, of_cause, Tells, Refuses, by_none, by_fault}
+
+-- ---- the first is kept
+
+first_none : (o : Option At) → first_kept o [] ≡ o
+first_none None = refl
+first_none (Some a) = refl
+
+first_both : (o : Option At) (us bs : List At) → first_kept (first_kept o us) bs ≡ first_kept o (us ++ bs)
+first_both (Some a) us bs = refl
+first_both None [] bs = refl
+first_both None (a ∷ us) bs = refl
+
+-- what a row lists stands before what its parts list
+pub first_of_row : (o : Option At) (us bs : List At) (had : Bool) → had ≡ is_some o → first_before_if had us (first_kept o bs) ≡ first_kept o (us ++ bs)
+first_of_row (Some a) us bs had e = ap (λ b. first_before_if b us (Some a)) e
+first_of_row None [] bs had e = ap (λ b. first_before_if b [] (first_kept None bs)) e
+first_of_row None (a ∷ us) bs had e = ap (λ b. first_before_if b (a ∷ us) (first_kept None bs)) e
 
 module _ (r : Relations) (d : Document) (most : ℕ) where
-  -- ---- faults and notes of lists
+  -- ---- faults, notes and unread values of lists
 
   faults_of_both : (xs bs : List Node) → faults_in r d most (xs ++ bs) ≡ faults_in r d most xs ++ faults_in r d most bs
   faults_of_both [] bs = refl
@@ -29,18 +48,25 @@ module _ (r : Relations) (d : Document) (most : ℕ) where
       ap (λ ns. placed a.place (notes_at r d a.schema) ++ ns) (notes_of_both xs bs)
       ∙ sym (append_assoc (placed a.place (notes_at r d a.schema)) (notes_in r d xs) (notes_in r d bs))
 
+  unread_of_both : (xs bs : List Node) → unread_listed r d most (xs ++ bs) ≡ unread_listed r d most xs ++ unread_listed r d most bs
+  unread_of_both [] bs = refl
+  unread_of_both (a ∷ xs) bs =
+      ap (λ us. unread_of r d most a.place (row_of r d a.schema) a.entry ++ us) (unread_of_both xs bs)
+      ∙ sym (append_assoc (unread_of r d most a.place (row_of r d a.schema) a.entry) (unread_listed r d most xs) (unread_listed r d most bs))
+
   no_fault_of_both : (xs bs : List Node) → faults_in r d most xs ≡ [] → faults_in r d most bs ≡ [] → faults_in r d most (xs ++ bs) ≡ []
   no_fault_of_both xs bs e h = faults_of_both xs bs ∙ ap (λ cs. cs ++ faults_in r d most bs) e ∙ h
 
   -- ---- told
 
-  pub told_none : (ns : List Note) → IsTold r d most [] ns ns
-  told_none ns = record { faultless = refl; notes = sym (append-nil ns) }
+  pub told_none : (k : KeptD) → IsTold r d most [] k k
+  told_none k = record { faultless = refl; notes = sym (append-nil k.notes); unread = sym (first_none k.unread) }
 
-  pub told_both : (xs bs : List Node) (k l m : List Note) → IsTold r d most xs k l → IsTold r d most bs l m → IsTold r d most (xs ++ bs) k m
+  pub told_both : (xs bs : List Node) (k l m : KeptD) → IsTold r d most xs k l → IsTold r d most bs l m → IsTold r d most (xs ++ bs) k m
   told_both xs bs k l m x y = record {
     faultless = no_fault_of_both xs bs x.faultless y.faultless;
-    notes = y.notes ∙ ap (λ ns. ns ++ notes_in r d bs) x.notes ∙ append_assoc k (notes_in r d xs) (notes_in r d bs) ∙ ap (λ ns. k ++ ns) (sym (notes_of_both xs bs));
+    notes = y.notes ∙ ap (λ ns. ns ++ notes_in r d bs) x.notes ∙ append_assoc k.notes (notes_in r d xs) (notes_in r d bs) ∙ ap (λ ns. k.notes ++ ns) (sym (notes_of_both xs bs));
+    unread = y.unread ∙ ap (λ o. first_kept o (unread_listed r d most bs)) x.unread ∙ first_both k.unread (unread_listed r d most xs) (unread_listed r d most bs) ∙ ap (first_kept k.unread) (sym (unread_of_both xs bs));
   }
 
   module _ (start : Location) (f : FaultD) where
@@ -88,28 +114,28 @@ module _ (r : Relations) (d : Document) (most : ℕ) where
 
   -- ---- a part of a list is passed
 
-  pub record Passed (whole rest : List Node) (old new : List Note) : Type 0 where
+  pub record Passed (whole rest : List Node) (old new : KeptD) : Type 0 where
     pub done : List Node
     pub split : whole ≡ done ++ rest
     pub told : IsTold r d most done old new
 
-  pub passed_none : (whole : List Node) (ns : List Note) → Passed whole whole ns ns
-  passed_none whole ns = record { done = []; split = refl; told = told_none ns }
+  pub passed_none : (whole : List Node) (k : KeptD) → Passed whole whole k k
+  passed_none whole k = record { done = []; split = refl; told = told_none k }
 
-  pub passed_on : (whole xs bs : List Node) (k l m : List Note) → Passed whole (xs ++ bs) k l → IsTold r d most xs l m → Passed whole bs k m
+  pub passed_on : (whole xs bs : List Node) (k l m : KeptD) → Passed whole (xs ++ bs) k l → IsTold r d most xs l m → Passed whole bs k m
   passed_on whole xs bs k l m p t = record {
     done = p.done ++ xs;
     split = p.split ∙ sym (append_assoc p.done xs bs);
     told = told_both p.done xs k l m p.told t;
   }
 
-  pub passed_all : (whole : List Node) (k l : List Note) → Passed whole [] k l → IsTold r d most whole k l
+  pub passed_all : (whole : List Node) (k l : KeptD) → Passed whole [] k l → IsTold r d most whole k l
   passed_all whole k l p = subst (λ (ts : List Node). IsTold r d most ts k l) (sym (p.split ∙ append-nil p.done)) p.told
 
-  pub passed_end : (whole rest : List Node) (k l : List Note) → rest ≡ [] → Passed whole rest k l → IsTold r d most whole k l
+  pub passed_end : (whole rest : List Node) (k l : KeptD) → rest ≡ [] → Passed whole rest k l → IsTold r d most whole k l
   passed_end whole rest k l e p = passed_all whole k l (subst (λ (ts : List Node). Passed whole ts k l) e p)
 
-  pub passed_refuses : (start : Location) (f : FaultD) (old new : ℕ) (whole xs bs : List Node) (k l : List Note)
+  pub passed_refuses : (start : Location) (f : FaultD) (old new : ℕ) (whole xs bs : List Node) (k l : KeptD)
       → Passed whole (xs ++ bs) k l → Refuses r d most start old new xs f → Refuses r d most start old new whole f
   passed_refuses start f old new whole xs bs k l p h =
       subst (λ (ts : List Node). Refuses r d most start old new ts f) (sym p.split)
@@ -147,9 +173,12 @@ module _ (r : Relations) (d : Document) (most : ℕ) where
         refuses_second start f old new own_node (branch_nodes ++ part_list) (own_faultless e)
         (refuses_second start f old new branch_nodes part_list (ap (faults_in r d most) b) k)
 
-    pub told_whole : (j k o : List Note) → finding_faults r d most (finding_of r d s) ≡ [] → branch_nodes ≡ [] → k ≡ j ++ placed l (notes_at r d s)
-        → IsTold r d most part_list k o → IsTold r d most (nodes_at r d n (suc m) h l s) j o
-    told_whole j k o e b g t =
-        told_both own_node (branch_nodes ++ part_list) j k o
-        (record { faultless = own_faultless e; notes = g ∙ ap (λ ns. j ++ ns) (sym (append-nil (placed l (notes_at r d s)))) })
-        (subst (λ (ts : List Node). IsTold r d most (ts ++ part_list) k o) (sym b) t)
+    pub told_whole : (j k o : KeptD) → finding_faults r d most (finding_of r d s) ≡ [] → branch_nodes ≡ [] → k.notes ≡ j.notes ++ placed l (notes_at r d s) → k.unread ≡ j.unread
+        → IsToldOf r d most l (row_of r d s) (entry_at r d n (suc m) h s) part_list k o → IsTold r d most (nodes_at r d n (suc m) h l s) j o
+    told_whole j k o e b g u t = record {
+      faultless = no_fault_of_both own_node (branch_nodes ++ part_list) (own_faultless e) (ap (λ ts. faults_in r d most (ts ++ part_list)) b ∙ t.faultless);
+      notes = t.notes ∙ ap (λ ns. ns ++ notes_in r d part_list) g ∙ append_assoc j.notes (placed l (notes_at r d s)) (notes_in r d part_list)
+          ∙ ap (λ ts. j.notes ++ (placed l (notes_at r d s) ++ notes_in r d (ts ++ part_list))) (sym b);
+      unread = t.unread ∙ ap (λ o. first_kept o (unread_of r d most l (row_of r d s) (entry_at r d n (suc m) h s) ++ unread_listed r d most part_list)) u
+          ∙ ap (λ ts. first_kept j.unread (unread_of r d most l (row_of r d s) (entry_at r d n (suc m) h s) ++ unread_listed r d most (ts ++ part_list))) (sym b);
+    }

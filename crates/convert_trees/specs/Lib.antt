@@ -3,3 +3,5 @@ pub mod Nodes
 pub mod Places
 pub mod Tables
 pub mod Told
+pub mod Unread
+pub mod Keeping

@@ -6,8 +6,9 @@ use Rattle.schema_defs.specs.Location.{Location}
 use Rattle.schema_defs.specs.Texts.{Relations}
 use Rattle.schema_defs.specs.Schema.{Schema, boolean, object, Definition, Document}
 use Rattle.schema_defs.specs.Admits.{definition_location}
+use Rattle.entry_defs.specs.Entry.{Entry}
 use Rattle.convert_defs.specs.Row as row
-use Rattle.convert_defs.specs.Row.{Row, leaf_row, as_it_is_row, option_row, ruled_row, vec_row, set_row, array_row, tuple_row, map_row, pattern_map_row, struct_row, enum_row, merged_row, refused_row, Part, Finding, plainly, Cause, Note}
+use Rattle.convert_defs.specs.Row.{Row, leaf_row, as_it_is_row, option_row, ruled_row, vec_row, set_row, array_row, tuple_row, map_row, pattern_map_row, struct_row, enum_row, merged_row, refused_row, Part, Finding, plainly, Cause}
 use Rattle.convert_defs.specs.Table.{finding_of}
 use Rattle.convert_defs.specs.Convert.{Node, notes_in}
 use Rattle.convert_defs.specs.Faults.{finding_faults, faults_in}
@@ -18,6 +19,8 @@ use Rattle.schema_tree.specs.declared.fault.UnsupportedKind.{UnsupportedKind}
 use Rattle.schema_tree.specs.declared.fault.UnsupportedKind.TheVariants as kind
 use Rattle.schema_tree.specs.Fault.{FaultD, memory, depth, places, bad_value, invalid_schema, unsupported, texts}
 use Rattle.convert_trees.specs.Places.{IsWalkTo}
+use Rattle.convert_trees.specs.Unread.{first_kept, unread_of, unread_listed}
+use Rattle.convert_trees.specs.Keeping.{KeptD}
 
 -- ---- the fault that is told for a cause
 
@@ -92,10 +95,17 @@ pub data RowRefuses (l : Location) (s : Schema) (w : Row) (told : FaultD) : Type
 
 -- ---- nodes
 
--- no fault, and the notes
-pub record IsTold (r : Relations) (d : Document) (most : ℕ) (ts : List Node) (old new : List Note) : Type 0 where
+-- no fault, the notes, and the first listed value that isn't read
+pub record IsTold (r : Relations) (d : Document) (most : ℕ) (ts : List Node) (old new : KeptD) : Type 0 where
   pub faultless : faults_in r d most ts ≡ []
-  pub notes : new ≡ old ++ notes_in r d ts
+  pub notes : new.notes ≡ old.notes ++ notes_in r d ts
+  pub unread : new.unread ≡ first_kept old.unread (unread_listed r d most ts)
+
+-- the same of the parts of a schema, with the values that its own row lists
+pub record IsToldOf (r : Relations) (d : Document) (most : ℕ) (l : Location) (w : Row) (e : Entry) (ts : List Node) (old new : KeptD) : Type 0 where
+  pub faultless : faults_in r d most ts ≡ []
+  pub notes : new.notes ≡ old.notes ++ notes_in r d ts
+  pub unread : new.unread ≡ first_kept old.unread (unread_of r d most l w e ++ unread_listed r d most ts)
 
 -- the first fault of a schema of the tree
 pub data TellsOf (r : Relations) (d : Document) (most : ℕ) (start : Location) (t : Node) (f : FaultD) : Type 0 where

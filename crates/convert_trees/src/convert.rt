@@ -14,19 +14,21 @@ ghost use Rattle.entry_trees.specs.View.{tree_view};
 ghost use Rattle.row_trees.specs.Build.{built};
 ghost use Rattle.convert_trees.specs.Listed.{listed_view};
 ghost use Rattle.convert_trees.specs.Nodes.{converted, entry_at, nodes_at, part_nodes, parts_nodes};
-ghost use Rattle.note_order.specs.Notes.{notes_view};
 ghost use Rattle.convert_trees.specs.Places.{place_at, step_count, trail_count, TellsDepth};
-ghost use Rattle.convert_trees.specs.Told.{IsTold, NoAnswer, Refuses};
+ghost use Rattle.convert_trees.specs.Keeping.{kept_view};
+ghost use Rattle.convert_trees.specs.Told.{IsTold, IsToldOf, NoAnswer, Refuses};
+ghost use Rattle.convert_trees.specs.Unread.{first_before_if, unread_of};
 
 use crate::faults::{text_fault, too_deep};
+use crate::keeping::Kept;
 use crate::listed::{Listed, listed_parts};
 use crate::names::named;
 use crate::notes::push_notes;
 use crate::own::check_own;
 use crate::places::{count_of, longer};
 use crate::scope::Scope;
+use crate::unread::keep_unless;
 use entry_trees::Tree;
-use note_order::PlacedNote;
 use row_trees::row_tree;
 use row_types::{Branch, Finding, Part, Row, Source, Steps};
 use schema_rows::finding;
@@ -86,12 +88,13 @@ fn keep_notes<'d>(
     scope: &Scope<'d, '_>,
     trail: &Vec<Steps<'d>>,
     finding: &Finding<'d>,
-    notes: &mut Vec<PlacedNote>,
+    kept: &mut Kept<'d>,
 ) -> Result<(), Fault>
-    ensures notes { OnOk result (notes_view notes.new.items ≡ notes_view notes.old.items ++ placed (place_at scope.now.start.now trail.now.items) (map note_view finding.now.notes.items)) }
+    ensures notes { OnOk result ((kept_view kept.new).notes ≡ (kept_view kept.old).notes ++ placed (place_at scope.now.start.now trail.now.items) (map note_view finding.now.notes.items)) }
+    ensures unread { OnOk result ((kept_view kept.new).unread ≡ (kept_view kept.old).unread) }
     ensures memory { IfErr result (λ f. fault_view f ≡ memory) }
 {
-    match push_notes(scope, trail, &finding.notes, notes) {
+    match push_notes(scope, trail, &finding.notes, &mut kept.notes) {
         Ok(_) => Ok(()),
         Err(_) => Err(Fault::Memory),
     }
@@ -116,6 +119,29 @@ fn tree_of_row<'d, T: Texts>(
     }
 }
 
+// The tree of a row; the first value that it lists and doesn't read is kept, before what its parts list, unless one was kept before them.
+fn finished<'d, T: Texts>(
+    scope: &Scope<'d, '_>,
+    texts: &mut T,
+    kept: &mut Kept<'d>,
+    trail: &Vec<Steps<'d>>,
+    had: bool,
+    name: &'d str,
+    row: &Row<'d>,
+    trees: VecDeque<Tree<'d>>,
+) -> Result<Tree<'d>, Fault>
+    ensures answer { IfOk result (λ t. tree_view t ≡ built name.now (row_view (T.relations texts.old) row.now) (map tree_view trees.entry.items)) }
+    ensures notes { OnOk result ((kept_view kept.new).notes ≡ (kept_view kept.old).notes) }
+    ensures unread { IfOk result (λ t. (d : DocumentOf) (depth : ℕ) → (kept_view kept.new).unread ≡ first_before_if had (unread_of (T.relations texts.old) d depth (place_at scope.now.start.now trail.now.items) (row_view (T.relations texts.old) row.now) (tree_view t)) (kept_view kept.old).unread) }
+    ensures refused { IfErr result (λ f. NoAnswer (T.faults texts.old) (T.faults texts.new) (fault_view f)) }
+    ensures keeps { T.relations texts.new ≡ T.relations texts.old }
+    ensures counts { T.faults texts.old ≤ T.faults texts.new }
+{
+    keep_unless(had, scope, texts, kept, trail, row, &trees)?;
+    let tree = tree_of_row(scope, trail, name, row, trees, texts)?;
+    Ok(tree)
+}
+
 fn push_tree<'d>(trees: &mut VecDeque<Tree<'d>>, tree: Tree<'d>) -> Result<(), Fault>
     ensures trees { OnOk result (map tree_view trees.new.items ≡ map tree_view trees.old.items ++ tree_view tree.entry ∷ []) }
     ensures memory { IfErr result (λ f. fault_view f ≡ memory) }
@@ -130,7 +156,7 @@ fn push_tree<'d>(trees: &mut VecDeque<Tree<'d>>, tree: Tree<'d>) -> Result<(), F
 fn checked<'d, T: Texts>(
     scope: &Scope<'d, '_>,
     texts: &mut T,
-    notes: &mut Vec<PlacedNote>,
+    kept: &mut Kept<'d>,
     trail: &Vec<Steps<'d>>,
     left: u32,
     source: &Source<'d>,
@@ -139,14 +165,15 @@ fn checked<'d, T: Texts>(
     ensures finding { IfOk result (λ f. (r : Relations) → finding_view r f ≡ finding_of r (document_seen scope.now.document.now) (source_view source.now)) }
     ensures fine { IfOk result (λ f. (d : DocumentOf) → finding_faults (T.relations texts.old) d scope.now.depth (finding_view (T.relations texts.old) f) ≡ []) }
     ensures branches { IfOk result (λ f. cut_branches left (place_at scope.now.start.now trail.now.items) (finding_view (T.relations texts.old) f).branches ≡ []) }
-    ensures notes { IfOk result (λ f. notes_view notes.new.items ≡ notes_view notes.old.items ++ placed (place_at scope.now.start.now trail.now.items) (finding_view (T.relations texts.old) f).notes) }
+    ensures notes { IfOk result (λ f. (kept_view kept.new).notes ≡ (kept_view kept.old).notes ++ placed (place_at scope.now.start.now trail.now.items) (finding_view (T.relations texts.old) f).notes) }
+    ensures unread { OnOk result ((kept_view kept.new).unread ≡ (kept_view kept.old).unread) }
     ensures refused { IfErr result (λ f. (made : ℕ) (h : Handed) → made ≢ 0 → Refuses (T.relations texts.old) (document_seen scope.now.document.now) scope.now.depth scope.now.start.now (T.faults texts.old) (T.faults texts.new) (nodes_at (T.relations texts.old) (document_seen scope.now.document.now) left made h (place_at scope.now.start.now trail.now.items) (source_view source.now)) (fault_view f)) }
     ensures keeps { T.relations texts.new ≡ T.relations texts.old }
     ensures counts { T.faults texts.old ≤ T.faults texts.new }
 {
     let finding = found(scope, source)?;
     check_own(scope, trail, source, &finding, texts)?;
-    keep_notes(scope, trail, &finding, notes)?;
+    keep_notes(scope, trail, &finding, kept)?;
     check_branches(scope, trail, left, &finding.branches)?;
     Ok(finding)
 }
@@ -158,7 +185,7 @@ fn checked<'d, T: Texts>(
 pub fn convert<'d, T: Texts>(
     scope: &Scope<'d, '_>,
     texts: &mut T,
-    notes: &mut Vec<PlacedNote>,
+    kept: &mut Kept<'d>,
     trail: &Vec<Steps<'d>>,
     left: u32,
     made: u32,
@@ -167,7 +194,7 @@ pub fn convert<'d, T: Texts>(
 ) -> Result<Tree<'d>, Fault>
     requires { trail_count trail.now.items + left ≡ scope.now.depth }
     ensures entry { IfOk result (λ t. tree_view t ≡ entry_at (T.relations texts.old) (document_seen scope.now.document.now) left made (option_map (λ n. n.now) handed.entry) (source_view source.now)) }
-    ensures told { OnOk result (IsTold (T.relations texts.old) (document_seen scope.now.document.now) scope.now.depth (nodes_at (T.relations texts.old) (document_seen scope.now.document.now) left made (option_map (λ n. n.now) handed.entry) (place_at scope.now.start.now trail.now.items) (source_view source.now)) (notes_view notes.old.items) (notes_view notes.new.items)) }
+    ensures told { OnOk result (IsTold (T.relations texts.old) (document_seen scope.now.document.now) scope.now.depth (nodes_at (T.relations texts.old) (document_seen scope.now.document.now) left made (option_map (λ n. n.now) handed.entry) (place_at scope.now.start.now trail.now.items) (source_view source.now)) (kept_view kept.old) (kept_view kept.new)) }
     ensures refused { IfErr result (λ f. Refuses (T.relations texts.old) (document_seen scope.now.document.now) scope.now.depth scope.now.start.now (T.faults texts.old) (T.faults texts.new) (nodes_at (T.relations texts.old) (document_seen scope.now.document.now) left made (option_map (λ n. n.now) handed.entry) (place_at scope.now.start.now trail.now.items) (source_view source.now)) (fault_view f)) }
     ensures keeps { T.relations texts.new ≡ T.relations texts.old }
     ensures counts { T.faults texts.old ≤ T.faults texts.new }
@@ -175,11 +202,11 @@ pub fn convert<'d, T: Texts>(
     if made == 0 {
         return Err(Fault::Memory);
     }
-    let finding = checked(scope, texts, notes, trail, left, source)?;
+    let finding = checked(scope, texts, kept, trail, left, source)?;
     let tree = convert_found(
         scope,
         texts,
-        notes,
+        kept,
         trail,
         left,
         made - 1,
@@ -195,7 +222,7 @@ pub fn convert<'d, T: Texts>(
 fn convert_found<'d, T: Texts>(
     scope: &Scope<'d, '_>,
     texts: &mut T,
-    notes: &mut Vec<PlacedNote>,
+    kept: &mut Kept<'d>,
     trail: &Vec<Steps<'d>>,
     left: u32,
     made: u32,
@@ -205,14 +232,15 @@ fn convert_found<'d, T: Texts>(
 ) -> Result<Tree<'d>, Fault>
     requires { trail_count trail.now.items + left ≡ scope.now.depth }
     ensures entry { IfOk result (λ t. tree_view t ≡ built (named_by (option_map (λ n. n.now) handed.entry) (source_view source.now)) (row_view (T.relations texts.old) finding.now.row) (map (converted (T.relations texts.old) (document_seen scope.now.document.now) left made (option_map (λ n. n.now) handed.entry)) (row_parts (row_view (T.relations texts.old) finding.now.row)))) }
-    ensures told { OnOk result (IsTold (T.relations texts.old) (document_seen scope.now.document.now) scope.now.depth (parts_nodes (T.relations texts.old) (document_seen scope.now.document.now) left made (option_map (λ n. n.now) handed.entry) (place_at scope.now.start.now trail.now.items) (row_parts (row_view (T.relations texts.old) finding.now.row))) (notes_view notes.old.items) (notes_view notes.new.items)) }
+    ensures told { IfOk result (λ t. IsToldOf (T.relations texts.old) (document_seen scope.now.document.now) scope.now.depth (place_at scope.now.start.now trail.now.items) (row_view (T.relations texts.old) finding.now.row) (tree_view t) (parts_nodes (T.relations texts.old) (document_seen scope.now.document.now) left made (option_map (λ n. n.now) handed.entry) (place_at scope.now.start.now trail.now.items) (row_parts (row_view (T.relations texts.old) finding.now.row))) (kept_view kept.old) (kept_view kept.new)) }
     ensures refused { IfErr result (λ f. Refuses (T.relations texts.old) (document_seen scope.now.document.now) scope.now.depth scope.now.start.now (T.faults texts.old) (T.faults texts.new) (parts_nodes (T.relations texts.old) (document_seen scope.now.document.now) left made (option_map (λ n. n.now) handed.entry) (place_at scope.now.start.now trail.now.items) (row_parts (row_view (T.relations texts.old) finding.now.row))) (fault_view f)) }
     ensures keeps { T.relations texts.new ≡ T.relations texts.old }
     ensures counts { T.faults texts.old ≤ T.faults texts.new }
 {
-    let trees = convert_row(scope, texts, notes, trail, left, made, handed, &finding.row)?;
+    let had = kept.unread.is_some();
+    let trees = convert_row(scope, texts, kept, trail, left, made, handed, &finding.row)?;
     let name = named(handed, source);
-    let tree = tree_of_row(scope, trail, name, &finding.row, trees, texts)?;
+    let tree = finished(scope, texts, kept, trail, had, name, &finding.row, trees)?;
     Ok(tree)
 }
 
@@ -220,7 +248,7 @@ fn convert_found<'d, T: Texts>(
 fn convert_row<'d, T: Texts>(
     scope: &Scope<'d, '_>,
     texts: &mut T,
-    notes: &mut Vec<PlacedNote>,
+    kept: &mut Kept<'d>,
     trail: &Vec<Steps<'d>>,
     left: u32,
     made: u32,
@@ -229,13 +257,13 @@ fn convert_row<'d, T: Texts>(
 ) -> Result<VecDeque<Tree<'d>>, Fault>
     requires { trail_count trail.now.items + left ≡ scope.now.depth }
     ensures entries { IfOk result (λ ts. map tree_view ts.items ≡ map (converted (T.relations texts.old) (document_seen scope.now.document.now) left made (option_map (λ n. n.now) handed.entry)) (row_parts (row_view (T.relations texts.old) row.now))) }
-    ensures told { OnOk result (IsTold (T.relations texts.old) (document_seen scope.now.document.now) scope.now.depth (parts_nodes (T.relations texts.old) (document_seen scope.now.document.now) left made (option_map (λ n. n.now) handed.entry) (place_at scope.now.start.now trail.now.items) (row_parts (row_view (T.relations texts.old) row.now))) (notes_view notes.old.items) (notes_view notes.new.items)) }
+    ensures told { OnOk result (IsTold (T.relations texts.old) (document_seen scope.now.document.now) scope.now.depth (parts_nodes (T.relations texts.old) (document_seen scope.now.document.now) left made (option_map (λ n. n.now) handed.entry) (place_at scope.now.start.now trail.now.items) (row_parts (row_view (T.relations texts.old) row.now))) (kept_view kept.old) (kept_view kept.new)) }
     ensures refused { IfErr result (λ f. Refuses (T.relations texts.old) (document_seen scope.now.document.now) scope.now.depth scope.now.start.now (T.faults texts.old) (T.faults texts.new) (parts_nodes (T.relations texts.old) (document_seen scope.now.document.now) left made (option_map (λ n. n.now) handed.entry) (place_at scope.now.start.now trail.now.items) (row_parts (row_view (T.relations texts.old) row.now))) (fault_view f)) }
     ensures keeps { T.relations texts.new ≡ T.relations texts.old }
     ensures counts { T.faults texts.old ≤ T.faults texts.new }
 {
     let parts = listed_parts(scope, row)?;
-    let trees = convert_parts(scope, texts, notes, trail, left, made, handed, &parts)?;
+    let trees = convert_parts(scope, texts, kept, trail, left, made, handed, &parts)?;
     Ok(trees)
 }
 
@@ -243,7 +271,7 @@ fn convert_row<'d, T: Texts>(
 fn convert_parts<'d, T: Texts>(
     scope: &Scope<'d, '_>,
     texts: &mut T,
-    notes: &mut Vec<PlacedNote>,
+    kept: &mut Kept<'d>,
     trail: &Vec<Steps<'d>>,
     left: u32,
     made: u32,
@@ -252,14 +280,14 @@ fn convert_parts<'d, T: Texts>(
 ) -> Result<VecDeque<Tree<'d>>, Fault>
     requires { trail_count trail.now.items + left ≡ scope.now.depth }
     ensures entries { IfOk result (λ ts. map tree_view ts.items ≡ map (converted (T.relations texts.old) (document_seen scope.now.document.now) left made (option_map (λ n. n.now) handed.entry)) (listed_view parts.now)) }
-    ensures told { OnOk result (IsTold (T.relations texts.old) (document_seen scope.now.document.now) scope.now.depth (parts_nodes (T.relations texts.old) (document_seen scope.now.document.now) left made (option_map (λ n. n.now) handed.entry) (place_at scope.now.start.now trail.now.items) (listed_view parts.now)) (notes_view notes.old.items) (notes_view notes.new.items)) }
+    ensures told { OnOk result (IsTold (T.relations texts.old) (document_seen scope.now.document.now) scope.now.depth (parts_nodes (T.relations texts.old) (document_seen scope.now.document.now) left made (option_map (λ n. n.now) handed.entry) (place_at scope.now.start.now trail.now.items) (listed_view parts.now)) (kept_view kept.old) (kept_view kept.new)) }
     ensures refused { IfErr result (λ f. Refuses (T.relations texts.old) (document_seen scope.now.document.now) scope.now.depth scope.now.start.now (T.faults texts.old) (T.faults texts.new) (parts_nodes (T.relations texts.old) (document_seen scope.now.document.now) left made (option_map (λ n. n.now) handed.entry) (place_at scope.now.start.now trail.now.items) (listed_view parts.now)) (fault_view f)) }
     ensures keeps { T.relations texts.new ≡ T.relations texts.old }
     ensures counts { T.faults texts.old ≤ T.faults texts.new }
 {
     let mut trees = VecDeque::new(scope.alloc);
     for listed in parts {
-        let tree = convert_part(scope, texts, notes, trail, left, made, handed, listed.part)?;
+        let tree = convert_part(scope, texts, kept, trail, left, made, handed, listed.part)?;
         push_tree(&mut trees, tree)?;
     }
     Ok(trees)
@@ -270,7 +298,7 @@ fn convert_parts<'d, T: Texts>(
 fn convert_part<'d, T: Texts>(
     scope: &Scope<'d, '_>,
     texts: &mut T,
-    notes: &mut Vec<PlacedNote>,
+    kept: &mut Kept<'d>,
     trail: &Vec<Steps<'d>>,
     left: u32,
     made: u32,
@@ -279,22 +307,20 @@ fn convert_part<'d, T: Texts>(
 ) -> Result<Tree<'d>, Fault>
     requires { trail_count trail.now.items + left ≡ scope.now.depth }
     ensures entry { IfOk result (λ t. tree_view t ≡ converted (T.relations texts.old) (document_seen scope.now.document.now) left made (option_map (λ n. n.now) handed.entry) (part_view part.now)) }
-    ensures told { OnOk result (IsTold (T.relations texts.old) (document_seen scope.now.document.now) scope.now.depth (part_nodes (T.relations texts.old) (document_seen scope.now.document.now) left made (option_map (λ n. n.now) handed.entry) (place_at scope.now.start.now trail.now.items) (part_view part.now)) (notes_view notes.old.items) (notes_view notes.new.items)) }
+    ensures told { OnOk result (IsTold (T.relations texts.old) (document_seen scope.now.document.now) scope.now.depth (part_nodes (T.relations texts.old) (document_seen scope.now.document.now) left made (option_map (λ n. n.now) handed.entry) (place_at scope.now.start.now trail.now.items) (part_view part.now)) (kept_view kept.old) (kept_view kept.new)) }
     ensures refused { IfErr result (λ f. Refuses (T.relations texts.old) (document_seen scope.now.document.now) scope.now.depth scope.now.start.now (T.faults texts.old) (T.faults texts.new) (part_nodes (T.relations texts.old) (document_seen scope.now.document.now) left made (option_map (λ n. n.now) handed.entry) (place_at scope.now.start.now trail.now.items) (part_view part.now)) (fault_view f)) }
     ensures keeps { T.relations texts.new ≡ T.relations texts.old }
     ensures counts { T.faults texts.old ≤ T.faults texts.new }
 {
     match part {
         Part::Child(steps, source) => {
-            one_on(scope, texts, notes, trail, *steps, left, None, source)
+            one_on(scope, texts, kept, trail, *steps, left, None, source)
         }
-        Part::OfBranch(steps, source) => {
-            two_on(scope, texts, notes, trail, *steps, left, source)
-        }
+        Part::OfBranch(steps, source) => { two_on(scope, texts, kept, trail, *steps, left, source) }
         Part::Lone(steps, source) => {
-            one_on(scope, texts, notes, trail, *steps, left, handed, source)
+            one_on(scope, texts, kept, trail, *steps, left, handed, source)
         }
-        Part::Made(source) => { convert(scope, texts, notes, trail, left, made, handed, source) }
+        Part::Made(source) => { convert(scope, texts, kept, trail, left, made, handed, source) }
     }
 }
 
@@ -303,7 +329,7 @@ fn convert_part<'d, T: Texts>(
 fn one_on<'d, T: Texts>(
     scope: &Scope<'d, '_>,
     texts: &mut T,
-    notes: &mut Vec<PlacedNote>,
+    kept: &mut Kept<'d>,
     trail: &Vec<Steps<'d>>,
     steps: Steps<'d>,
     left: u32,
@@ -312,7 +338,7 @@ fn one_on<'d, T: Texts>(
 ) -> Result<Tree<'d>, Fault>
     requires { trail_count trail.now.items + left ≡ scope.now.depth }
     ensures entry { IfOk result (λ t. tree_view t ≡ raw_entry (T.relations texts.old) (document_seen scope.now.document.now) left (option_map (λ n. n.now) handed.entry) (source_view source.now)) }
-    ensures told { OnOk result (IsTold (T.relations texts.old) (document_seen scope.now.document.now) scope.now.depth (tree_of (T.relations texts.old) (document_seen scope.now.document.now) left (option_map (λ n. n.now) handed.entry) (place_at scope.now.start.now trail.now.items ++ steps_view steps.entry) (source_view source.now)) (notes_view notes.old.items) (notes_view notes.new.items)) }
+    ensures told { OnOk result (IsTold (T.relations texts.old) (document_seen scope.now.document.now) scope.now.depth (tree_of (T.relations texts.old) (document_seen scope.now.document.now) left (option_map (λ n. n.now) handed.entry) (place_at scope.now.start.now trail.now.items ++ steps_view steps.entry) (source_view source.now)) (kept_view kept.old) (kept_view kept.new)) }
     ensures refused { IfErr result (λ f. Refuses (T.relations texts.old) (document_seen scope.now.document.now) scope.now.depth scope.now.start.now (T.faults texts.old) (T.faults texts.new) (tree_of (T.relations texts.old) (document_seen scope.now.document.now) left (option_map (λ n. n.now) handed.entry) (place_at scope.now.start.now trail.now.items ++ steps_view steps.entry) (source_view source.now)) (fault_view f)) }
     ensures keeps { T.relations texts.new ≡ T.relations texts.old }
     ensures counts { T.faults texts.old ≤ T.faults texts.new }
@@ -322,7 +348,7 @@ fn one_on<'d, T: Texts>(
         return Err(Fault::Memory);
     }
     let longer = longer_trail(scope, trail, steps)?;
-    let tree = enter(scope, texts, notes, &longer, left, handed, source)?;
+    let tree = enter(scope, texts, kept, &longer, left, handed, source)?;
     Ok(tree)
 }
 
@@ -331,7 +357,7 @@ fn one_on<'d, T: Texts>(
 fn two_on<'d, T: Texts>(
     scope: &Scope<'d, '_>,
     texts: &mut T,
-    notes: &mut Vec<PlacedNote>,
+    kept: &mut Kept<'d>,
     trail: &Vec<Steps<'d>>,
     steps: Steps<'d>,
     left: u32,
@@ -339,7 +365,7 @@ fn two_on<'d, T: Texts>(
 ) -> Result<Tree<'d>, Fault>
     requires { trail_count trail.now.items + left ≡ scope.now.depth }
     ensures entry { IfOk result (λ t. tree_view t ≡ past_branch (T.relations texts.old) (document_seen scope.now.document.now) left None (source_view source.now)) }
-    ensures told { OnOk result (IsTold (T.relations texts.old) (document_seen scope.now.document.now) scope.now.depth (inner_tree (T.relations texts.old) (document_seen scope.now.document.now) left None (place_at scope.now.start.now trail.now.items ++ steps_view steps.entry) (source_view source.now)) (notes_view notes.old.items) (notes_view notes.new.items)) }
+    ensures told { OnOk result (IsTold (T.relations texts.old) (document_seen scope.now.document.now) scope.now.depth (inner_tree (T.relations texts.old) (document_seen scope.now.document.now) left None (place_at scope.now.start.now trail.now.items ++ steps_view steps.entry) (source_view source.now)) (kept_view kept.old) (kept_view kept.new)) }
     ensures refused { IfErr result (λ f. Refuses (T.relations texts.old) (document_seen scope.now.document.now) scope.now.depth scope.now.start.now (T.faults texts.old) (T.faults texts.new) (inner_tree (T.relations texts.old) (document_seen scope.now.document.now) left None (place_at scope.now.start.now trail.now.items ++ steps_view steps.entry) (source_view source.now)) (fault_view f)) }
     ensures keeps { T.relations texts.new ≡ T.relations texts.old }
     ensures counts { T.faults texts.old ≤ T.faults texts.new }
@@ -352,7 +378,7 @@ fn two_on<'d, T: Texts>(
         return Err(Fault::Memory);
     }
     let longer = longer_trail(scope, trail, steps)?;
-    let tree = enter(scope, texts, notes, &longer, left - 1, None, source)?;
+    let tree = enter(scope, texts, kept, &longer, left - 1, None, source)?;
     Ok(tree)
 }
 
@@ -376,7 +402,7 @@ fn longer_trail<'d>(
 fn enter<'d, T: Texts>(
     scope: &Scope<'d, '_>,
     texts: &mut T,
-    notes: &mut Vec<PlacedNote>,
+    kept: &mut Kept<'d>,
     trail: &Vec<Steps<'d>>,
     left: u32,
     handed: Option<&'d str>,
@@ -384,7 +410,7 @@ fn enter<'d, T: Texts>(
 ) -> Result<Tree<'d>, Fault>
     requires { trail_count trail.now.items + left ≡ scope.now.depth + 1 }
     ensures entry { IfOk result (λ t. tree_view t ≡ raw_entry (T.relations texts.old) (document_seen scope.now.document.now) left (option_map (λ n. n.now) handed.entry) (source_view source.now)) }
-    ensures told { OnOk result (IsTold (T.relations texts.old) (document_seen scope.now.document.now) scope.now.depth (tree_of (T.relations texts.old) (document_seen scope.now.document.now) left (option_map (λ n. n.now) handed.entry) (place_at scope.now.start.now trail.now.items) (source_view source.now)) (notes_view notes.old.items) (notes_view notes.new.items)) }
+    ensures told { OnOk result (IsTold (T.relations texts.old) (document_seen scope.now.document.now) scope.now.depth (tree_of (T.relations texts.old) (document_seen scope.now.document.now) left (option_map (λ n. n.now) handed.entry) (place_at scope.now.start.now trail.now.items) (source_view source.now)) (kept_view kept.old) (kept_view kept.new)) }
     ensures refused { IfErr result (λ f. Refuses (T.relations texts.old) (document_seen scope.now.document.now) scope.now.depth scope.now.start.now (T.faults texts.old) (T.faults texts.new) (tree_of (T.relations texts.old) (document_seen scope.now.document.now) left (option_map (λ n. n.now) handed.entry) (place_at scope.now.start.now trail.now.items) (source_view source.now)) (fault_view f)) }
     ensures keeps { T.relations texts.new ≡ T.relations texts.old }
     ensures counts { T.faults texts.old ≤ T.faults texts.new }
@@ -395,7 +421,7 @@ fn enter<'d, T: Texts>(
     let tree = convert(
         scope,
         texts,
-        notes,
+        kept,
         trail,
         left - 1,
         MOST_MADE,

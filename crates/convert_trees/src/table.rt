@@ -1,5 +1,5 @@
 //! The table of a document.
-ghost use Rattle.std.specs.Prelude.{◌≡◌, ◌≤◌, ◌++◌, suc, [], ◌∷◌, true, Some, IfErr, IfOk, OnOk, map, option_map};
+ghost use Rattle.std.specs.Prelude.{◌≡◌, ◌≤◌, ◌++◌, suc, [], ◌∷◌, true, None, Some, IfErr, IfOk, OnOk, map, option_map};
 ghost use Rattle.schema_defs.specs.Admits.{defined, definition_word};
 ghost use Rattle.schema_types.specs.View.{schema_view};
 ghost use Rattle.schema_tree.specs.Document.{view as document_seen};
@@ -10,10 +10,13 @@ ghost use Rattle.convert_defs.specs.Convert.{as_item as as_item_of, definition_t
 ghost use Rattle.convert_defs.specs.Faults.{faults_of};
 ghost use Rattle.convert_defs.specs.RootReference.{refers_to_root as refers_to_root_of};
 ghost use Rattle.note_order.specs.Notes.{notes_view};
+ghost use Rattle.convert_trees.specs.Keeping.{kept_view, unread_view};
 ghost use Rattle.convert_trees.specs.Tables.{is_under_defs, root_targets_of, root_use_of};
 ghost use Rattle.convert_trees.specs.Told.{IsTold, Refuses, RefusesAll};
+ghost use Rattle.convert_trees.specs.Unread.{first_kept, unread_in_document};
 
 use crate::convert::{MOST_MADE, convert};
+use crate::keeping::{Kept, Unread};
 use crate::names::root_name;
 use crate::scope::Scope;
 use entry_trees::{Atom, Target, Tree, TreeTable};
@@ -30,6 +33,7 @@ use tree_parts::{as_item, atom};
 pub struct Converted<'d> {
     pub table: TreeTable<'d>,
     pub notes: Vec<PlacedNote>,
+    pub unread: Option<Unread<'d>>,
 }
 
 /// The table of a document, where walks may have so many steps, and lists as many places.
@@ -42,15 +46,23 @@ pub fn table_of<'d, T: Texts>(
     ensures table { IfOk result (λ c. table_view c.table ≡ table_of_document (T.relations texts.old) (document_seen document.now) depth) }
     ensures faultless { OnOk result (faults_of (T.relations texts.old) (document_seen document.now) depth ≡ []) }
     ensures notes { IfOk result (λ c. notes_view c.notes.items ≡ notes_in (T.relations texts.old) (document_seen document.now) (document_tree (T.relations texts.old) (document_seen document.now) depth)) }
+    ensures unread { IfOk result (λ c. option_map unread_view c.unread ≡ first_kept None (unread_in_document (T.relations texts.old) (document_seen document.now) depth)) }
     ensures refused { IfErr result (λ f. RefusesAll (T.relations texts.old) (document_seen document.now) depth (T.faults texts.old) (T.faults texts.new) (document_tree (T.relations texts.old) (document_seen document.now) depth) (fault_view f)) }
     ensures keeps { T.relations texts.new ≡ T.relations texts.old }
     ensures counts { T.faults texts.old ≤ T.faults texts.new }
 {
-    let mut notes = Vec::new(alloc);
-    let targets = definition_targets(alloc, document, depth, texts, &mut notes)?;
-    let root = root_tree(alloc, document, depth, texts, &mut notes)?;
+    let mut kept = Kept {
+        notes: Vec::new(alloc),
+        unread: None,
+    };
+    let targets = definition_targets(alloc, document, depth, texts, &mut kept)?;
+    let root = root_tree(alloc, document, depth, texts, &mut kept)?;
     let table = rooted(alloc, document, targets, root)?;
-    Ok(Converted { table, notes })
+    Ok(Converted {
+        table,
+        notes: kept.notes,
+        unread: kept.unread,
+    })
 }
 
 fn keyword_of(under_defs: bool) -> &'static str
@@ -102,12 +114,12 @@ fn definition_item<'d, T: Texts>(
     document: &'d Document,
     depth: u32,
     texts: &mut T,
-    notes: &mut Vec<PlacedNote>,
+    kept: &mut Kept<'d>,
     name: &'d str,
     schema: &'d Schema,
 ) -> Result<Tree<'d>, Fault>
     ensures item { IfOk result (λ t. item_in (tree_view t) ≡ as_item_of name.now (raw_entry (T.relations texts.old) (document_seen document.now) (suc depth) (Some name.now) (schema_view schema.now))) }
-    ensures told { OnOk result (IsTold (T.relations texts.old) (document_seen document.now) depth (tree_of (T.relations texts.old) (document_seen document.now) (suc depth) (Some name.now) (definition_word (is_under_defs (document_seen document.now) name.now) ∷ name.now ∷ []) (schema_view schema.now)) (notes_view notes.old.items) (notes_view notes.new.items)) }
+    ensures told { OnOk result (IsTold (T.relations texts.old) (document_seen document.now) depth (tree_of (T.relations texts.old) (document_seen document.now) (suc depth) (Some name.now) (definition_word (is_under_defs (document_seen document.now) name.now) ∷ name.now ∷ []) (schema_view schema.now)) (kept_view kept.old) (kept_view kept.new)) }
     ensures refused { IfErr result (λ f. Refuses (T.relations texts.old) (document_seen document.now) depth (definition_word (is_under_defs (document_seen document.now) name.now) ∷ name.now ∷ []) (T.faults texts.old) (T.faults texts.new) (tree_of (T.relations texts.old) (document_seen document.now) (suc depth) (Some name.now) (definition_word (is_under_defs (document_seen document.now) name.now) ∷ name.now ∷ []) (schema_view schema.now)) (fault_view f)) }
     ensures keeps { T.relations texts.new ≡ T.relations texts.old }
     ensures counts { T.faults texts.old ≤ T.faults texts.new }
@@ -124,7 +136,7 @@ fn definition_item<'d, T: Texts>(
     let tree = convert(
         &scope,
         texts,
-        notes,
+        kept,
         &trail,
         depth,
         MOST_MADE,
@@ -140,10 +152,10 @@ fn definition_targets<'d, T: Texts>(
     document: &'d Document,
     depth: u32,
     texts: &mut T,
-    notes: &mut Vec<PlacedNote>,
+    kept: &mut Kept<'d>,
 ) -> Result<Vec<(Target, Tree<'d>)>, Fault>
     ensures targets { IfOk result (λ ts. map target_entry ts.items ≡ map (definition_target (T.relations texts.old) (document_seen document.now) depth) (document_seen document.now).definitions) }
-    ensures told { OnOk result (IsTold (T.relations texts.old) (document_seen document.now) depth (definition_trees (T.relations texts.old) (document_seen document.now) depth (document_seen document.now).definitions) (notes_view notes.old.items) (notes_view notes.new.items)) }
+    ensures told { OnOk result (IsTold (T.relations texts.old) (document_seen document.now) depth (definition_trees (T.relations texts.old) (document_seen document.now) depth (document_seen document.now).definitions) (kept_view kept.old) (kept_view kept.new)) }
     ensures refused { IfErr result (λ f. RefusesAll (T.relations texts.old) (document_seen document.now) depth (T.faults texts.old) (T.faults texts.new) (definition_trees (T.relations texts.old) (document_seen document.now) depth (document_seen document.now).definitions) (fault_view f)) }
     ensures keeps { T.relations texts.new ≡ T.relations texts.old }
     ensures counts { T.faults texts.old ≤ T.faults texts.new }
@@ -152,7 +164,7 @@ fn definition_targets<'d, T: Texts>(
     let mut names = document.names();
     while let Some(name) = names.next() {
         let schema = body_of(document, name)?;
-        let item = definition_item(alloc, document, depth, texts, notes, name, schema)?;
+        let item = definition_item(alloc, document, depth, texts, kept, name, schema)?;
         push_definition(alloc, &mut targets, name, item)?;
     }
     Ok(targets)
@@ -192,10 +204,10 @@ fn root_tree<'d, T: Texts>(
     document: &'d Document,
     depth: u32,
     texts: &mut T,
-    notes: &mut Vec<PlacedNote>,
+    kept: &mut Kept<'d>,
 ) -> Result<Tree<'d>, Fault>
     ensures entry { IfOk result (λ t. tree_view t ≡ root_entry (T.relations texts.old) (document_seen document.now) depth) }
-    ensures told { OnOk result (IsTold (T.relations texts.old) (document_seen document.now) depth (root_tree_of (T.relations texts.old) (document_seen document.now) depth) (notes_view notes.old.items) (notes_view notes.new.items)) }
+    ensures told { OnOk result (IsTold (T.relations texts.old) (document_seen document.now) depth (root_tree_of (T.relations texts.old) (document_seen document.now) depth) (kept_view kept.old) (kept_view kept.new)) }
     ensures refused { IfErr result (λ f. Refuses (T.relations texts.old) (document_seen document.now) depth [] (T.faults texts.old) (T.faults texts.new) (root_tree_of (T.relations texts.old) (document_seen document.now) depth) (fault_view f)) }
     ensures keeps { T.relations texts.new ≡ T.relations texts.old }
     ensures counts { T.faults texts.old ≤ T.faults texts.new }
@@ -214,7 +226,7 @@ fn root_tree<'d, T: Texts>(
     let tree = convert(
         &scope,
         texts,
-        notes,
+        kept,
         &trail,
         depth,
         MOST_MADE,

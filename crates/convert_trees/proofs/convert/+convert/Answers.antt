@@ -8,7 +8,7 @@ use Rattle.row_types.specs.declared.part.Part.{Part as CodePart}
 use Rattle.row_types.specs.Given.{source_view}
 use Rattle.row_types.specs.View.{finding_view, part_view, row_view}
 use Rattle.row_trees.specs.Build.{built}
-use Rattle.note_order.specs.Notes.{notes_view}
+use Rattle.convert_trees.specs.Keeping.{kept_view}
 use Rattle.convert_trees.specs.Places.{place_at, trail_count}
 use Rattle.convert_trees.proofs.Here.{if_err, none_from, want_refuses, parts_here, told_here, entry_here, told_moved, refuses_moved, deep_here, on_refuses, on_told, inner_refuses, inner_told}
 use Rattle.convert_trees.proofs.Entering.{entered, passed}
@@ -18,6 +18,7 @@ use Rattle.convert_defs.specs.Row.{Part, row_parts}
 use Rattle.convert_trees.specs.Listed.{listed_view}
 use Rattle.convert_trees.specs.Nodes.{converted, part_nodes, parts_nodes}
 use Rattle.convert_trees.specs.Told.{IsTold, Refuses, by_none}
+use Rattle.convert_trees.proofs.Rows.{had_seen, told_of_row}
 use Rattle.convert_trees.proofs.Parts.{entries_all, entries_next, part_refuses, told_all, told_next}
 use Rattle.convert_trees.proofs.Telling.{passed_none}
 use Rattle.convert_trees.proofs.convert.+convert.Goals as goal
@@ -46,11 +47,11 @@ convert-returns-clause-told g t c =
     let h = option_map (λ n. n.now) c.args.handed in
     let row = c.in_ok-finding.finding.row in
     told_here r d c.args.scope.now.depth c.args.left c.args.made h (place_at c.args.scope.now.start.now c.args.trail.now.items) s (finding_view r c.in_ok-finding.finding) r'
-    (notes_view c.args.notes.now.items) (notes_view c.checked.new.notes.items) (notes_view c.convert_found.new.notes.items) (row_parts (row_view r' row))
+    (kept_view c.args.kept.now) (kept_view c.checked.new.kept) (kept_view c.convert_found.new.kept) (row_view r' row) (tree_view c.in_ok-tree.tree)
     (λ k. absurd (omega (arith, k, c.if-made-eq0.false))) (c.in_ok-finding.ensures.finding r) (c.in_ok-finding.ensures.fine d) c.in_ok-finding.ensures.branches
-    c.in_ok-finding.ensures.notes
-    (ap (λ (r : Relations). row_parts (row_view r row)) c.in_ok-finding.ensures.keeps)
-    c.in_ok-finding.ensures.keeps c.in_ok-tree.ensures.told
+    c.in_ok-finding.ensures.notes c.in_ok-finding.ensures.unread
+    (ap (λ (r : Relations). row_view r row) c.in_ok-finding.ensures.keeps)
+    c.in_ok-finding.ensures.keeps (convert-returns-clause-entry g t c) c.in_ok-tree.ensures.told
 
 pub convert-returns-then-made-eq0-clause-refused : goal.convert-returns-then-made-eq0-clause-refused
 convert-returns-then-made-eq0-clause-refused g t c = want_refuses _ _ _ _ _ _ _ _ refl
@@ -78,7 +79,13 @@ convert_found-returns-clause-entry g t c =
     c.in_ok-tree.ensures.answer ∙ (λ i. built (c.named-name.ensures i) (row_view (c.in_ok-trees.ensures.keeps i) c.args.finding.now.row) (c.in_ok-trees.ensures.entries i))
 
 pub convert_found-returns-clause-told : goal.convert_found-returns-clause-told
-convert_found-returns-clause-told g t c = c.in_ok-trees.ensures.told
+convert_found-returns-clause-told g t c =
+    let r = g.T.Texts.relations c.args.texts.now in
+    let d = document_seen c.args.scope.now.document.now in
+    let most = c.args.scope.now.depth in
+    told_of_row r d most (place_at c.args.scope.now.start.now c.args.trail.now.items) c.args.finding.now.row (tree_view c.in_ok-tree.tree) _
+    (kept_view c.args.kept.now) (kept_view c.convert_row.new.kept) (kept_view c.finished.new.kept) (g.T.Texts.relations c.convert_row.new.texts) c.is_some-had.result
+    c.in_ok-trees.ensures.keeps (had_seen c.args.kept.now.unread c.is_some-had.result c.is_some-had.ensures) c.in_ok-trees.ensures.told c.in_ok-tree.ensures.notes (c.in_ok-tree.ensures.unread d most)
 
 pub convert_found-returns-in_err-trees-clause-refused : goal.convert_found-returns-in_err-trees-clause-refused
 convert_found-returns-in_err-trees-clause-refused g t c =
@@ -104,7 +111,7 @@ convert_row-returns-clause-told g t c =
     let d = document_seen c.args.scope.now.document.now in
     let h = option_map (λ n. n.now) c.args.handed in
     let l = place_at c.args.scope.now.start.now c.args.trail.now.items in
-    subst (λ (ps : List Part). IsTold r d c.args.scope.now.depth (parts_nodes r d c.args.left c.args.made h l ps) (notes_view c.args.notes.now.items) (notes_view c.convert_parts.new.notes.items))
+    subst (λ (ps : List Part). IsTold r d c.args.scope.now.depth (parts_nodes r d c.args.left c.args.made h l ps) (kept_view c.args.kept.now) (kept_view c.convert_parts.new.kept))
     (ap listed_view c.deref.ensures.value ∙ c.in_ok-parts.ensures.parts r) c.in_ok-trees.ensures.told
 
 pub convert_row-returns-in_err-parts-clause-refused : goal.convert_row-returns-in_err-parts-clause-refused
@@ -143,7 +150,7 @@ convert_parts-loop-listed-preserved g t c =
     record {
       entries = entries_next r d most c.args.left c.args.made h l r' inv.keeps c.args.parts.now c.loop-listed.listed-index c.listed-item.result (tree_view c.in_ok-tree.tree) (map tree_view c.loop-listed.trees.items) (map tree_view c.push_tree.new.trees.items) _
           c.loop-listed-test.true c.listed-item.is inv.entries c.in_ok-push_tree.ensures.trees c.in_ok-tree.ensures.entry;
-      told = told_next r d most c.args.left c.args.made h l r' inv.keeps c.args.parts.now c.loop-listed.listed-index c.listed-item.result (notes_view c.args.notes.now.items) (notes_view c.loop-listed.notes.items) (notes_view c.convert_part.new.notes.items)
+      told = told_next r d most c.args.left c.args.made h l r' inv.keeps c.args.parts.now c.loop-listed.listed-index c.listed-item.result (kept_view c.args.kept.now) (kept_view c.loop-listed.kept) (kept_view c.convert_part.new.kept)
           c.loop-listed-test.true c.listed-item.is inv.told c.in_ok-tree.ensures.told;
       keeps = c.in_ok-tree.ensures.keeps ∙ inv.keeps;
       counts = omega (arith, inv.counts, c.in_ok-tree.ensures.counts);
@@ -163,7 +170,7 @@ convert_parts-returns-clause-told g t c =
     let d = document_seen c.args.scope.now.document.now in
     let h = option_map (λ n. n.now) c.args.handed in
     let l = place_at c.args.scope.now.start.now c.args.trail.now.items in
-    told_all r d c.args.scope.now.depth c.args.left c.args.made h l _ c.loop-listed.invariant.keeps c.args.parts.now c.loop-listed.listed-index (notes_view c.args.notes.now.items) (notes_view c.loop-listed.notes.items)
+    told_all r d c.args.scope.now.depth c.args.left c.args.made h l _ c.loop-listed.invariant.keeps c.args.parts.now c.loop-listed.listed-index (kept_view c.args.kept.now) (kept_view c.loop-listed.kept)
     c.loop-listed-test.false c.loop-listed.invariant.told
 
 pub convert_parts-returns-in_err-tree-clause-refused : goal.convert_parts-returns-in_err-tree-clause-refused
@@ -175,7 +182,7 @@ convert_parts-returns-in_err-tree-clause-refused g t c =
     let l = place_at c.args.scope.now.start.now c.args.trail.now.items in
     let inv = c.loop-listed.invariant in
     if_err c.from_residual.result c.in_err-tree.field-0.0 _ c.from_residual.ensures.1
-    (part_refuses r d c.args.scope.now.depth c.args.left c.args.made h l r' inv.keeps c.args.parts.now c.loop-listed.listed-index c.listed-item.result (notes_view c.args.notes.now.items) (notes_view c.loop-listed.notes.items) c.args.scope.now.start.now _
+    (part_refuses r d c.args.scope.now.depth c.args.left c.args.made h l r' inv.keeps c.args.parts.now c.loop-listed.listed-index c.listed-item.result (kept_view c.args.kept.now) (kept_view c.loop-listed.kept) c.args.scope.now.start.now _
     (g.T.Texts.faults c.args.texts.now) (g.T.Texts.faults c.loop-listed.texts) _ c.loop-listed-test.true c.listed-item.is inv.told inv.counts c.in_err-tree.ensures.refused)
 
 pub convert_parts-returns-in_err-push_tree-clause-refused : goal.convert_parts-returns-in_err-push_tree-clause-refused
@@ -194,7 +201,7 @@ one_on-returns-clause-told g t c =
     let most = c.args.scope.now.depth in
     let start = c.args.scope.now.start.now in
     let l = place_at start c.args.trail.now.items in
-    told_moved r d most (λ l. tree r d n h l s) (l ++ steps_view c.args.steps) (place_at start c.in_ok-longer.longer.items) (notes_view c.args.notes.now.items) (notes_view c.enter.new.notes.items)
+    told_moved r d most (λ l. tree r d n h l s) (l ++ steps_view c.args.steps) (place_at start c.in_ok-longer.longer.items) (kept_view c.args.kept.now) (kept_view c.enter.new.kept)
     c.in_ok-longer.ensures.place c.in_ok-tree.ensures.told
 
 pub one_on-returns-then-count-ne1-clause-refused : goal.one_on-returns-then-count-ne1-clause-refused
@@ -240,8 +247,8 @@ two_on-returns-clause-told g t c =
     let most = c.args.scope.now.depth in
     let start = c.args.scope.now.start.now in
     let l = place_at start c.args.trail.now.items in
-    inner_told r d most n h (l ++ steps_view c.args.steps) s (notes_view c.args.notes.now.items) (notes_view c.enter.new.notes.items) (λ k. absurd (omega (arith, k, c.if-left-eq0.false)))
-    (told_moved r d most (λ l. tree r d (n - 1) h l s) (l ++ steps_view c.args.steps) (place_at start c.in_ok-longer.longer.items) (notes_view c.args.notes.now.items) (notes_view c.enter.new.notes.items)
+    inner_told r d most n h (l ++ steps_view c.args.steps) s (kept_view c.args.kept.now) (kept_view c.enter.new.kept) (λ k. absurd (omega (arith, k, c.if-left-eq0.false)))
+    (told_moved r d most (λ l. tree r d (n - 1) h l s) (l ++ steps_view c.args.steps) (place_at start c.in_ok-longer.longer.items) (kept_view c.args.kept.now) (kept_view c.enter.new.kept)
     c.in_ok-longer.ensures.place c.in_ok-tree.ensures.told)
 
 pub two_on-returns-then-left-eq0-clause-refused : goal.two_on-returns-then-left-eq0-clause-refused
@@ -293,7 +300,7 @@ enter-returns-clause-told g t c =
     let most = c.args.scope.now.depth in
     let start = c.args.scope.now.start.now in
     let l = place_at start c.args.trail.now.items in
-    on_told r d most n h l s (notes_view c.args.notes.now.items) (notes_view c.convert.new.notes.items) (λ k. absurd (omega (arith, k, c.if-left-eq0.false))) c.in_ok-tree.ensures.told
+    on_told r d most n h l s (kept_view c.args.kept.now) (kept_view c.convert.new.kept) (λ k. absurd (omega (arith, k, c.if-left-eq0.false))) c.in_ok-tree.ensures.told
 
 pub enter-returns-then-left-eq0-clause-refused : goal.enter-returns-then-left-eq0-clause-refused
 enter-returns-then-left-eq0-clause-refused g t c =
@@ -342,7 +349,7 @@ convert_part-returns-in-Child-clause-told g t c =
     let most = c.args.scope.now.depth in
     let start = c.args.scope.now.start.now in
     let l = place_at start c.args.trail.now.items in
-    subst (λ (p : CodePart). OnOk c.one_on.result (IsTold r d most (part_nodes r d n c.args.made h l (part_view p)) (notes_view c.args.notes.now.items) (notes_view c.one_on.new.notes.items))) (sym c.in-Child.is) c.one_on.ensures.told
+    subst (λ (p : CodePart). OnOk c.one_on.result (IsTold r d most (part_nodes r d n c.args.made h l (part_view p)) (kept_view c.args.kept.now) (kept_view c.one_on.new.kept))) (sym c.in-Child.is) c.one_on.ensures.told
 
 pub convert_part-returns-in-Child-clause-refused : goal.convert_part-returns-in-Child-clause-refused
 convert_part-returns-in-Child-clause-refused g t c =
@@ -375,7 +382,7 @@ convert_part-returns-in-OfBranch-clause-told g t c =
     let most = c.args.scope.now.depth in
     let start = c.args.scope.now.start.now in
     let l = place_at start c.args.trail.now.items in
-    subst (λ (p : CodePart). OnOk c.two_on.result (IsTold r d most (part_nodes r d n c.args.made h l (part_view p)) (notes_view c.args.notes.now.items) (notes_view c.two_on.new.notes.items))) (sym c.in-OfBranch.is) c.two_on.ensures.told
+    subst (λ (p : CodePart). OnOk c.two_on.result (IsTold r d most (part_nodes r d n c.args.made h l (part_view p)) (kept_view c.args.kept.now) (kept_view c.two_on.new.kept))) (sym c.in-OfBranch.is) c.two_on.ensures.told
 
 pub convert_part-returns-in-OfBranch-clause-refused : goal.convert_part-returns-in-OfBranch-clause-refused
 convert_part-returns-in-OfBranch-clause-refused g t c =
@@ -408,7 +415,7 @@ convert_part-returns-in-Lone-clause-told g t c =
     let most = c.args.scope.now.depth in
     let start = c.args.scope.now.start.now in
     let l = place_at start c.args.trail.now.items in
-    subst (λ (p : CodePart). OnOk c.one_on-in-Lone.result (IsTold r d most (part_nodes r d n c.args.made h l (part_view p)) (notes_view c.args.notes.now.items) (notes_view c.one_on-in-Lone.new.notes.items))) (sym c.in-Lone.is) c.one_on-in-Lone.ensures.told
+    subst (λ (p : CodePart). OnOk c.one_on-in-Lone.result (IsTold r d most (part_nodes r d n c.args.made h l (part_view p)) (kept_view c.args.kept.now) (kept_view c.one_on-in-Lone.new.kept))) (sym c.in-Lone.is) c.one_on-in-Lone.ensures.told
 
 pub convert_part-returns-in-Lone-clause-refused : goal.convert_part-returns-in-Lone-clause-refused
 convert_part-returns-in-Lone-clause-refused g t c =
@@ -441,7 +448,7 @@ convert_part-returns-in-Made-clause-told g t c =
     let most = c.args.scope.now.depth in
     let start = c.args.scope.now.start.now in
     let l = place_at start c.args.trail.now.items in
-    subst (λ (p : CodePart). OnOk c.convert.result (IsTold r d most (part_nodes r d n c.args.made h l (part_view p)) (notes_view c.args.notes.now.items) (notes_view c.convert.new.notes.items))) (sym c.in-Made.is) c.convert.ensures.told
+    subst (λ (p : CodePart). OnOk c.convert.result (IsTold r d most (part_nodes r d n c.args.made h l (part_view p)) (kept_view c.args.kept.now) (kept_view c.convert.new.kept))) (sym c.in-Made.is) c.convert.ensures.told
 
 pub convert_part-returns-in-Made-clause-refused : goal.convert_part-returns-in-Made-clause-refused
 convert_part-returns-in-Made-clause-refused g t c =

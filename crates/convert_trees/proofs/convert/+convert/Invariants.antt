@@ -4,7 +4,7 @@ use Rattle.convert_trees.specs.Listed.{listed_view}
 use Rattle.schema_tree.specs.Document.{view as document_seen}
 use Rattle.std.specs.Prelude.{option_map, ◌++◌}
 use Rattle.convert_trees.specs.Nodes.{converted, parts_nodes}
-use Rattle.note_order.specs.Notes.{notes_view}
+use Rattle.convert_trees.specs.Keeping.{kept_view}
 use Rattle.convert_trees.specs.Places.{place_at}
 use Rattle.convert_trees.proofs.Telling.{Passed}
 use Rattle.convert_trees.proofs.convert.+convert.Given as goal
@@ -36,7 +36,7 @@ decreases-enter g l = l.left * 40
 abbrev pub invariant-convert_parts-loop-listed : goal.invariant-convert_parts-loop-listed
 invariant-convert_parts-loop-listed g l = record {
   entries : map tree_view l.trees.items ++ map (converted (g.T.Texts.relations l.initial.texts) (document_seen l.scope.document.now) l.left l.made (option_map (λ n. n.now) l.handed)) (listed_view (drop l.listed-index l.parts)) ≡ map (converted (g.T.Texts.relations l.initial.texts) (document_seen l.scope.document.now) l.left l.made (option_map (λ n. n.now) l.handed)) (listed_view l.parts);
-  told : Passed (g.T.Texts.relations l.initial.texts) (document_seen l.scope.document.now) l.scope.depth (parts_nodes (g.T.Texts.relations l.initial.texts) (document_seen l.scope.document.now) l.left l.made (option_map (λ n. n.now) l.handed) (place_at l.scope.start.now l.trail.items) (listed_view l.parts)) (parts_nodes (g.T.Texts.relations l.initial.texts) (document_seen l.scope.document.now) l.left l.made (option_map (λ n. n.now) l.handed) (place_at l.scope.start.now l.trail.items) (listed_view (drop l.listed-index l.parts))) (notes_view l.initial.notes.items) (notes_view l.notes.items);
+  told : Passed (g.T.Texts.relations l.initial.texts) (document_seen l.scope.document.now) l.scope.depth (parts_nodes (g.T.Texts.relations l.initial.texts) (document_seen l.scope.document.now) l.left l.made (option_map (λ n. n.now) l.handed) (place_at l.scope.start.now l.trail.items) (listed_view l.parts)) (parts_nodes (g.T.Texts.relations l.initial.texts) (document_seen l.scope.document.now) l.left l.made (option_map (λ n. n.now) l.handed) (place_at l.scope.start.now l.trail.items) (listed_view (drop l.listed-index l.parts))) (kept_view l.initial.kept) (kept_view l.kept);
   keeps : g.T.Texts.relations l.texts ≡ g.T.Texts.relations l.initial.texts;
   counts : g.T.Texts.faults l.initial.texts ≤ g.T.Texts.faults l.texts;
 }

@@ -8,7 +8,7 @@ use Rattle.schema_tree.specs.Document.{view as document_seen}
 use Rattle.schema_tree.specs.Fault.{fault_view}
 use Rattle.entry_trees.specs.View.{target_entry, tree_view, item_in}
 use Rattle.convert_defs.specs.Convert.{as_item, raw_entry, tree}
-use Rattle.note_order.specs.Notes.{notes_view}
+use Rattle.convert_trees.specs.Keeping.{kept_view}
 use Rattle.convert_trees.specs.Tables.{is_under_defs}
 use Rattle.convert_trees.specs.Told.{IsTold, Refuses}
 use Rattle.convert_trees.proofs.Here.{if_err, refuses_from}
@@ -34,15 +34,15 @@ loop-name-preserved g c =
     let names = c.next.new.self in
     let targets = map target_entry c.loop-name.targets.items in
     let s = schema_view c.in_ok-schema.schema.now in
-    let f : First r d most n names targets (notes_view c.args.notes.now.items) (notes_view c.loop-name.notes.items) =
-    first_left r d most n names targets _ _ (subst (λ (ns : List (List ℕ)). Left r d most ns targets (notes_view c.args.notes.now.items) (notes_view c.loop-name.notes.items)) c.in-Some.ensures inv.left) in
+    let f : First r d most n names targets (kept_view c.args.kept.now) (kept_view c.loop-name.kept) =
+    first_left r d most n names targets _ _ (subst (λ (ns : List (List ℕ)). Left r d most ns targets (kept_view c.args.kept.now) (kept_view c.loop-name.kept)) c.in-Some.ensures inv.left) in
     record {
-      left = goes_on r d most inv.rise n names targets (notes_view c.args.notes.now.items) (notes_view c.loop-name.notes.items) f s (item_in (tree_view c.in_ok-item.item)) (notes_view c.definition_item.new.notes.items)
+      left = goes_on r d most inv.rise n names targets (kept_view c.args.kept.now) (kept_view c.loop-name.kept) f s (item_in (tree_view c.in_ok-item.item)) (kept_view c.definition_item.new.kept)
           (map target_entry c.push_definition.new.targets.items)
           (body_of r d most inv.rise n names targets _ _ f s c.in_ok-schema.ensures.body)
           (c.in_ok-item.ensures.item ∙ ap (λ r. as_item n (raw_entry r d (suc most) (Some n) s)) inv.keeps)
           c.in_ok-push_definition.ensures.targets
-          (subst (λ (r : Relations). IsTold r d most (tree r d (suc most) (Some n) (definition_word (is_under_defs d n) ∷ n ∷ []) s) (notes_view c.loop-name.notes.items) (notes_view c.definition_item.new.notes.items)) inv.keeps c.in_ok-item.ensures.told);
+          (subst (λ (r : Relations). IsTold r d most (tree r d (suc most) (Some n) (definition_word (is_under_defs d n) ∷ n ∷ []) s) (kept_view c.loop-name.kept) (kept_view c.definition_item.new.kept)) inv.keeps c.in_ok-item.ensures.told);
       rise = inv.rise;
       keeps = c.in_ok-item.ensures.keeps ∙ inv.keeps;
       counts = omega (arith, inv.counts, c.in_ok-item.ensures.counts);
@@ -68,8 +68,8 @@ returns-in_err-item-clause-refused g c =
     let names = c.next.new.self in
     let targets = map target_entry c.loop-name.targets.items in
     let s = schema_view c.in_ok-schema.schema.now in
-    let f : First r d most n names targets (notes_view c.args.notes.now.items) (notes_view c.loop-name.notes.items) =
-    first_left r d most n names targets _ _ (subst (λ (ns : List (List ℕ)). Left r d most ns targets (notes_view c.args.notes.now.items) (notes_view c.loop-name.notes.items)) c.in-Some.ensures inv.left) in
+    let f : First r d most n names targets (kept_view c.args.kept.now) (kept_view c.loop-name.kept) =
+    first_left r d most n names targets _ _ (subst (λ (ns : List (List ℕ)). Left r d most ns targets (kept_view c.args.kept.now) (kept_view c.loop-name.kept)) c.in-Some.ensures inv.left) in
     if_err c.from_residual-in_err-item.result c.in_err-item.field-0.0 _ c.from_residual-in_err-item.ensures.1
     (stops r d most inv.rise n names targets _ _ f s _ _ _ (body_of r d most inv.rise n names targets _ _ f s c.in_ok-schema.ensures.body)
     (refuses_from _ _ _ _ _ _ _ _ _ inv.counts

@@ -2,7 +2,7 @@ use Rattle.std.proofs.Common.{map, rules}
 use Rattle.schema_tree.specs.Document.{view as document_seen}
 use Rattle.entry_trees.specs.View.{table_view, target_entry, tree_view}
 use Rattle.convert_trees.proofs.Here.{if_err}
-use Rattle.convert_trees.proofs.Roots.{all_told, is_faultless, all_notes, definitions_refuse, root_refuses, want_all, whole_table}
+use Rattle.convert_trees.proofs.Roots.{all_told, is_faultless, all_notes, all_unread, definitions_refuse, root_refuses, want_all, whole_table}
 use Rattle.convert_trees.proofs.table.table_of.Goals as goal
 
 pub returns-clause-table : goal.returns-clause-table
@@ -26,6 +26,13 @@ returns-clause-notes g c =
     let d = document_seen c.args.document.now in
     let most = c.args.depth in
     all_notes r d most _ _ (search rules) (all_told r d most _ _ _ (g.T.Texts.relations c.definition_targets.new.texts) c.in_ok-targets.ensures.keeps c.in_ok-targets.ensures.told c.in_ok-root.ensures.told)
+
+pub returns-clause-unread : goal.returns-clause-unread
+returns-clause-unread g c =
+    let r = g.T.Texts.relations c.args.texts.now in
+    let d = document_seen c.args.document.now in
+    let most = c.args.depth in
+    all_unread r d most _ _ (search rules) (all_told r d most _ _ _ (g.T.Texts.relations c.definition_targets.new.texts) c.in_ok-targets.ensures.keeps c.in_ok-targets.ensures.told c.in_ok-root.ensures.told)
 
 pub returns-in_err-targets-clause-refused : goal.returns-in_err-targets-clause-refused
 returns-in_err-targets-clause-refused g c =

@@ -1,0 +1,169 @@
+//! Listed values that aren't read.
+ghost use Rattle.std.specs.Prelude.{◌≡◌, ◌≤◌, ℕ, List, IfErr, IfOk, OnOk, map, option_map};
+ghost use Rattle.schema_defs.specs.Texts.{Relations};
+ghost use Rattle.schema_defs.specs.Schema.{Document as DocumentOf};
+ghost use Rattle.schema_types.specs.View.{kept_view as value_kept};
+ghost use Rattle.schema_tree.specs.Fault.{fault_view, memory};
+ghost use Rattle.convert_defs.specs.Values.{listed_by};
+ghost use Rattle.row_types.specs.View.{row_view, rule_view};
+ghost use Rattle.entry_trees.specs.View.{tree_view};
+ghost use Rattle.row_trees.specs.Build.{built, first_of};
+ghost use Rattle.convert_trees.specs.Keeping.{kept_view};
+ghost use Rattle.convert_trees.specs.Places.{place_at};
+ghost use Rattle.convert_trees.specs.Told.{NoAnswer};
+ghost use Rattle.scalar_takes.specs.Leading.{leads_on as leads_on_of};
+ghost use Rattle.scalar_takes.specs.Unread.{first_of as first_value};
+ghost use Rattle.convert_trees.specs.Unread.{first_before, first_before_if, rule_in, unread_by as unread_by_entry, unread_of, unread_values};
+
+use crate::faults::text_fault;
+use crate::keeping::{Kept, Unread};
+use crate::places::location_of;
+use crate::scope::Scope;
+use entry_trees::Tree;
+use row_types::{Row, RowRule, Steps};
+use scalar_takes::{first_unread_by, leads_on};
+use schema_tree::{Fault, Texts};
+use schema_types::Location;
+use serde_json::Value;
+use std::collections::VecDeque;
+
+// The rule of a row that lists values.
+fn rule_of<'d>(row: &Row<'d>) -> Option<RowRule<'d>>
+    ensures { (r : Relations) → option_map rule_view result ≡ rule_in (row_view r row.now) }
+{
+    match row {
+        Row::Ruled(_, rule) => Some(*rule),
+        Row::Leaf(_) => None,
+        Row::Reference(_) => None,
+        Row::AsItIs(_) => None,
+        Row::Option(_) => None,
+        Row::Vec(_) => None,
+        Row::Set(_) => None,
+        Row::Array(_, _) => None,
+        Row::Tuple { .. } => None,
+        Row::Map(_, _) => None,
+        Row::PatternMap(_, _) => None,
+        Row::Struct { .. } => None,
+        Row::Enum { .. } => None,
+        Row::Merged(_) => None,
+        Row::Refused(_) => None,
+    }
+}
+
+fn place_of(scope: &Scope<'_, '_>, trail: &Vec<Steps<'_>>) -> Result<Location, Fault>
+    ensures place { IfOk result (λ l. l ≡ place_at scope.now.start.now trail.now.items) }
+    ensures memory { IfErr result (λ f. fault_view f ≡ memory) }
+{
+    match location_of(scope.alloc, scope.start, trail) {
+        Ok(place) => Ok(place),
+        Err(_) => Err(Fault::Memory),
+    }
+}
+
+// The first value that a rule lists and the tree doesn't read; none where the tree leads on.
+fn unread_in<'d, T: Texts>(
+    scope: &Scope<'d, '_>,
+    texts: &mut T,
+    trail: &Vec<Steps<'d>>,
+    rule: RowRule<'d>,
+    tree: &Tree<'d>,
+) -> Result<Option<&'d Value>, Fault>
+    ensures found { IfOk result (λ o. (d : DocumentOf) (depth : ℕ) → option_map (λ v. value_kept v.now) o ≡ first_value (unread_by_entry (T.relations texts.old) d depth (leads_on_of (tree_view tree.now)) (tree_view tree.now) (listed_by (rule_view rule.entry)))) }
+    ensures refused { IfErr result (λ f. NoAnswer (T.faults texts.old) (T.faults texts.new) (fault_view f)) }
+    ensures keeps { T.relations texts.new ≡ T.relations texts.old }
+    ensures counts { T.faults texts.old ≤ T.faults texts.new }
+{
+    if leads_on(tree) {
+        return Ok(None);
+    }
+    match first_unread_by(tree, rule, texts) {
+        Ok(value) => Ok(value),
+        Err(fault) => Err(text_fault(scope, trail, fault)),
+    }
+}
+
+// The same of the tree of a row's part.
+fn unread_by<'d, T: Texts>(
+    scope: &Scope<'d, '_>,
+    texts: &mut T,
+    trail: &Vec<Steps<'d>>,
+    rule: RowRule<'d>,
+    trees: &VecDeque<Tree<'d>>,
+) -> Result<Option<&'d Value>, Fault>
+    ensures found { IfOk result (λ o. (d : DocumentOf) (depth : ℕ) → option_map (λ v. value_kept v.now) o ≡ first_value (unread_by_entry (T.relations texts.old) d depth (leads_on_of (first_of (map tree_view trees.now.items))) (first_of (map tree_view trees.now.items)) (listed_by (rule_view rule.entry)))) }
+    ensures refused { IfErr result (λ f. NoAnswer (T.faults texts.old) (T.faults texts.new) (fault_view f)) }
+    ensures keeps { T.relations texts.new ≡ T.relations texts.old }
+    ensures counts { T.faults texts.old ≤ T.faults texts.new }
+{
+    match trees.front() {
+        Some(tree) => unread_in(scope, texts, trail, rule, tree),
+        None => Err(Fault::Memory),
+    }
+}
+
+// The first value that a row lists and the tree of its part doesn't read.
+fn unread_value<'d, T: Texts>(
+    scope: &Scope<'d, '_>,
+    texts: &mut T,
+    trail: &Vec<Steps<'d>>,
+    row: &Row<'d>,
+    trees: &VecDeque<Tree<'d>>,
+) -> Result<Option<&'d Value>, Fault>
+    ensures found { IfOk result (λ o. (d : DocumentOf) (depth : ℕ) (name : List ℕ) → option_map (λ v. value_kept v.now) o ≡ first_value (unread_values (T.relations texts.old) d depth (row_view (T.relations texts.old) row.now) (built name (row_view (T.relations texts.old) row.now) (map tree_view trees.now.items)))) }
+    ensures refused { IfErr result (λ f. NoAnswer (T.faults texts.old) (T.faults texts.new) (fault_view f)) }
+    ensures keeps { T.relations texts.new ≡ T.relations texts.old }
+    ensures counts { T.faults texts.old ≤ T.faults texts.new }
+{
+    match rule_of(row) {
+        Some(rule) => unread_by(scope, texts, trail, rule, trees),
+        None => Ok(None),
+    }
+}
+
+// Keeps the first value that a row lists and the tree of its part doesn't read, before what was kept.
+fn keep_unread<'d, T: Texts>(
+    scope: &Scope<'d, '_>,
+    texts: &mut T,
+    kept: &mut Kept<'d>,
+    trail: &Vec<Steps<'d>>,
+    row: &Row<'d>,
+    trees: &VecDeque<Tree<'d>>,
+) -> Result<(), Fault>
+    ensures notes { OnOk result ((kept_view kept.new).notes ≡ (kept_view kept.old).notes) }
+    ensures unread { OnOk result ((d : DocumentOf) (depth : ℕ) (name : List ℕ) → (kept_view kept.new).unread ≡ first_before (unread_of (T.relations texts.old) d depth (place_at scope.now.start.now trail.now.items) (row_view (T.relations texts.old) row.now) (built name (row_view (T.relations texts.old) row.now) (map tree_view trees.now.items))) (kept_view kept.old).unread) }
+    ensures refused { IfErr result (λ f. NoAnswer (T.faults texts.old) (T.faults texts.new) (fault_view f)) }
+    ensures keeps { T.relations texts.new ≡ T.relations texts.old }
+    ensures counts { T.faults texts.old ≤ T.faults texts.new }
+{
+    match unread_value(scope, texts, trail, row, trees)? {
+        Some(value) => {
+            let path = place_of(scope, trail)?;
+            kept.unread = Some(Unread { path, value });
+            Ok(())
+        }
+        None => Ok(()),
+    }
+}
+
+/// The same, unless something was kept before both.
+pub fn keep_unless<'d, T: Texts>(
+    had: bool,
+    scope: &Scope<'d, '_>,
+    texts: &mut T,
+    kept: &mut Kept<'d>,
+    trail: &Vec<Steps<'d>>,
+    row: &Row<'d>,
+    trees: &VecDeque<Tree<'d>>,
+) -> Result<(), Fault>
+    ensures notes { OnOk result ((kept_view kept.new).notes ≡ (kept_view kept.old).notes) }
+    ensures unread { OnOk result ((d : DocumentOf) (depth : ℕ) (name : List ℕ) → (kept_view kept.new).unread ≡ first_before_if had (unread_of (T.relations texts.old) d depth (place_at scope.now.start.now trail.now.items) (row_view (T.relations texts.old) row.now) (built name (row_view (T.relations texts.old) row.now) (map tree_view trees.now.items))) (kept_view kept.old).unread) }
+    ensures refused { IfErr result (λ f. NoAnswer (T.faults texts.old) (T.faults texts.new) (fault_view f)) }
+    ensures keeps { T.relations texts.new ≡ T.relations texts.old }
+    ensures counts { T.faults texts.old ≤ T.faults texts.new }
+{
+    if had {
+        return Ok(());
+    }
+    keep_unread(scope, texts, kept, trail, row, trees)?;
+    Ok(())
+}

@@ -1,0 +1,9 @@
+pub mod Leads
+pub mod Contents
+pub mod Forms
+pub mod Given
+pub mod Ruled
+pub mod Seen
+pub mod Tagged
+pub mod Trees
+pub mod Variants

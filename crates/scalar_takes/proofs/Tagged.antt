@@ -1,0 +1,38 @@
+-- What the tag of an enum says of a value.
+use Rattle.std.proofs.Common.{◌≡◌, ℕ, List, Bool, false, Some, None, refl, sym, ap, ◌∙◌}
+use Rattle.std.specs.List.{list_any}
+use Rattle.json_value.specs.Value as value
+use Rattle.json_value.specs.Value.{Value, null, number, fraction, text, list, object}
+use Rattle.enum_defs.specs.Words.{as_text}
+use Rattle.schema_defs.specs.Texts.{Relations}
+use Rattle.model_defs.specs.Model.{external_tag, untagged}
+use Rattle.entry_defs.specs.Entry.{item, enum_shape, Variants, variants_of}
+use Rattle.entry_defs.specs.Layer.{contents_entry, is_unit_named, variant_named}
+use Rattle.entry_defs.specs.Table.{Table}
+use Rattle.entry_defs.specs.Takes.{takes}
+use Rattle.entry_defs.proofs.Rows.{rows_of_taking}
+use Rattle.scalar_takes.specs.Owners.{is_object}
+
+pub external_named : (v : Value) (s : List ℕ) (ws : Variants) (b : Bool) → Some s ≡ as_text v → b ≡ is_unit_named (variant_named s (variants_of ws))
+    → (t : Table) (r : Relations) (n : List ℕ) (closed : Bool) → takes t r (item n (enum_shape closed external_tag ws)) v ≡ b
+external_named null s ws b h k t r n closed = cc
+external_named (value.boolean c) s ws b h k t r n closed = cc
+external_named (number z) s ws b h k t r n closed = cc
+external_named fraction s ws b h k t r n closed = cc
+external_named (text u) s ws b h k t r n closed = let same : u ≡ s = cc in ap (λ z. is_unit_named (variant_named z (variants_of ws))) same ∙ sym k
+external_named (list xs) s ws b h k t r n closed = cc
+external_named (object ms) s ws b h k t r n closed = cc
+
+pub external_refused : (v : Value) (ws : Variants) → None ≡ as_text v → is_object v ≡ false
+    → (t : Table) (r : Relations) (n : List ℕ) (closed : Bool) → takes t r (item n (enum_shape closed external_tag ws)) v ≡ false
+external_refused null ws h k t r n closed = refl
+external_refused (value.boolean c) ws h k t r n closed = refl
+external_refused (number z) ws h k t r n closed = refl
+external_refused fraction ws h k t r n closed = refl
+external_refused (text u) ws h k t r n closed = cc
+external_refused (list xs) ws h k t r n closed = refl
+external_refused (object ms) ws h k t r n closed = cc
+
+pub untagged_passed : (v : Value) (ws : Variants) (t : Table) (r : Relations) (n : List ℕ) (closed : Bool)
+    → takes t r (item n (enum_shape closed untagged ws)) v ≡ list_any (λ w. takes t r (contents_entry closed w.contents) v) (variants_of ws)
+untagged_passed v ws t r n closed = (rows_of_taking t r).1.bare n closed ws v

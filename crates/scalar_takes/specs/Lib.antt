@@ -1,0 +1,4 @@
+pub mod Leading
+pub mod Owners
+pub mod Rules
+pub mod Unread
