@@ -1,5 +1,5 @@
 -- What is told as the first fault is one, and what conversion refuses is refused so.
-use Rattle.std.proofs.Common.{◌≡◌, inl, inr, ℕ, List, [], ◌∷◌, ◌++◌, Bool, true, false, cond, refl, sym, ap, ◌∙◌}
+use Rattle.std.proofs.Common.{◌≡◌, inl, inr, ℕ, List, [], ◌∷◌, ◌++◌, Bool, true, false, cond, Option, None, Some, subst, refl, sym, ap, ◌∙◌}
 use Rattle.schema_defs.specs.Location.{Location}
 use Rattle.schema_defs.specs.Texts.{Relations}
 use Rattle.schema_defs.specs.Schema.{Document}
@@ -10,8 +10,10 @@ use Rattle.convert_defs.specs.Table.{finding_of}
 use Rattle.convert_defs.specs.Convert.{Node, document_tree}
 use Rattle.convert_defs.specs.Faults.{finding_faults, node_faults, placed, faults_in, faults_of}
 use Rattle.convert_trees.specs.Told.{no_memory, failed, TellsOf, of_depth, of_cause, RefusesAll, by_want, by_node}
+use Rattle.convert_trees.specs.Unread.{At, first_kept, unread_in_document}
 use Rattle.typify_convert.specs.Emitted.{emission_of}
-use Rattle.typify_convert.specs.Stated.{states_nothing}
+use Rattle.typify_convert.specs.Stated.{states_no_default}
+use Rattle.typify_convert.specs.Unread.{TellsUnread, IsToldUnread}
 use Rattle.typify_convert.specs.Refused.{IsFirst, IsRefusal}
 
 -- ---- lists
@@ -61,5 +63,20 @@ module _ (r : Relations) (d : Document) (depth : ℕ) where
   pub without_memory : (old new : ℕ) (f : FaultD) → f ≡ memory → IsRefusal r d depth old new f
   without_memory old new f e = inl e
 
-  pub stated_refused : (old new : ℕ) (f : FaultD) → faults_of r d depth ≡ [] → states_nothing (emission_of r d depth).conversions ≡ false → f ≡ unsupported [] NotYet → IsRefusal r d depth old new f
-  stated_refused old new f n s e = inr (inr (inr (n, s, e)))
+  pub stated_refused : (old new : ℕ) (f : FaultD) → faults_of r d depth ≡ [] → unread_in_document r d depth ≡ [] → states_no_default (emission_of r d depth).conversions ≡ false → f ≡ unsupported [] NotYet
+      → IsRefusal r d depth old new f
+  stated_refused old new f n u s e = inr (inr (inr (n, inr (u, s, e))))
+
+  by_list : (old new : ℕ) (f : FaultD) (us : List At) (at : At) → faults_of r d depth ≡ [] → unread_in_document r d depth ≡ us → first_kept None us ≡ Some at → TellsUnread at f → IsRefusal r d depth old new f
+  by_list old new f [] at n e h t = absurd (cc)
+  by_list old new f (u ∷ us) at n e h (inl m) = inl m
+  by_list old new f (u ∷ us) at n e h (inr i) = inr (inr (inr (n, inl (at, us, (e ∙ (let same : u ≡ at = cc in ap (λ u. u ∷ us) same)), i))))
+
+  -- the first listed value that isn't read
+  pub unread_refused : (old new : ℕ) (f : FaultD) (o : Option At) → faults_of r d depth ≡ [] → o ≡ first_kept None (unread_in_document r d depth) → IsToldUnread o f → IsRefusal r d depth old new f
+  unread_refused old new f o n e t = by_list old new f (unread_in_document r d depth) t.0 n refl (sym e ∙ t.1) t.2
+
+  -- none is kept where all are read
+  pub all_read : (us : List At) → None ≡ first_kept None us → us ≡ []
+  all_read [] e = refl
+  all_read (u ∷ us) e = absurd (cc)

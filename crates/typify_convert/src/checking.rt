@@ -1,34 +1,15 @@
-//! Whether a table of conversions states values that would have to be checked.
-ghost use Rattle.std.specs.Prelude.{◌≡◌, map};
-ghost use Rattle.std.specs.List.{list_all};
+//! Values that a document states: those that its rules list, and defaults.
+ghost use Rattle.std.specs.Prelude.{◌≡◌, ◌⊎◌, None, IfErr, OnOk, map, option_map};
 ghost use Rattle.schema_types.specs.View.{kept_view};
-ghost use Rattle.schema_tree.specs.Conversions.{constraint_view, conversions_view};
-ghost use Rattle.typify_convert.specs.Stated.{is_none_of, is_of_texts as is_of_texts_of, states_nothing as states_nothing_of};
+ghost use Rattle.schema_tree.specs.Conversions.{conversions_view};
+ghost use Rattle.schema_tree.specs.Fault.{fault_view, memory};
+ghost use Rattle.convert_trees.specs.Keeping.{unread_view};
+ghost use Rattle.typify_convert.specs.Stated.{is_none_of, states_no_default as states_no_default_of};
+ghost use Rattle.typify_convert.specs.Unread.{IsToldUnread, TellsUnread};
 
-use schema_tree::{Constraint, Conversions, Rule};
+use convert_trees::Unread;
+use schema_tree::{Conversions, Fault};
 use serde_json::Value;
-
-fn is_of_texts(constraint: &Constraint) -> bool
-    ensures { result ≡ is_of_texts_of (constraint_view constraint.now) }
-{
-    match &constraint.rule {
-        Rule::Text { .. } => true,
-        Rule::Allow(_) | Rule::Deny(_) => false,
-    }
-}
-
-fn are_of_texts(constraints: &[Constraint]) -> bool
-    ensures { result ≡ list_all is_of_texts_of (map constraint_view constraints.now) }
-{
-    let mut left = constraints;
-    while let Some((constraint, rest)) = left.split_first() {
-        if !is_of_texts(constraint) {
-            return false;
-        }
-        left = rest;
-    }
-    true
-}
 
 fn are_none(values: &[Value]) -> bool
     ensures { result ≡ is_none_of (map kept_view values.now) }
@@ -39,13 +20,32 @@ fn are_none(values: &[Value]) -> bool
     }
 }
 
-/// Whether no default is stated and no rule lists values. It takes no memory.
-pub(crate) fn states_nothing(conversions: &Conversions) -> bool
-    ensures { result ≡ states_nothing_of (conversions_view conversions.now) }
+/// Whether no default is stated. It takes no memory.
+pub(crate) fn states_no_default(conversions: &Conversions) -> bool
+    ensures { result ≡ states_no_default_of (conversions_view conversions.now) }
 {
-    if are_none(&conversions.defaults) {
-        are_of_texts(&conversions.constraints)
-    } else {
-        false
+    are_none(&conversions.defaults)
+}
+
+fn invalid(unread: Unread<'_>) -> Fault
+    ensures { TellsUnread (unread_view unread.entry) (fault_view result) }
+{
+    match unread.value.clone() {
+        Ok(value) => Fault::InvalidValue {
+            path: unread.path,
+            value,
+        },
+        Err(_) => Fault::Memory,
+    }
+}
+
+/// Tells of the first listed value that isn't read.
+pub(crate) fn check_read(unread: Option<Unread<'_>>) -> Result<(), Fault>
+    ensures read { OnOk result (unread.entry ≡ None) }
+    ensures told { IfErr result (λ f. IsToldUnread (option_map unread_view unread.entry) (fault_view f)) }
+{
+    match unread {
+        None => Ok(()),
+        Some(unread) => Err(invalid(unread)),
     }
 }

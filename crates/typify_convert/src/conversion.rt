@@ -13,15 +13,16 @@ ghost use Rattle.convert_defs.specs.Convert.{notes_of};
 ghost use Rattle.convert_defs.specs.Faults.{faults_of};
 ghost use Rattle.convert_defs.specs.Order.{ordered};
 ghost use Rattle.document_laws.specs.Laws.{WasRead};
+ghost use Rattle.convert_trees.specs.Unread.{unread_in_document};
 ghost use Rattle.entry_trees.specs.View.{table_view};
 ghost use Rattle.note_order.specs.Notes.{notes_view};
 ghost use Rattle.space_trees.specs.Formed.{IsFormed};
 ghost use Rattle.typify_convert.specs.Note.{note_of};
 ghost use Rattle.typify_convert.specs.Emitted.{emission_of, emitted_view};
-ghost use Rattle.typify_convert.specs.Stated.{states_nothing as states_nothing_of};
+ghost use Rattle.typify_convert.specs.Stated.{states_no_default as states_no_default_of};
 ghost use Rattle.typify_convert.specs.Refused.{IsRefusal};
 
-use crate::checking::states_nothing;
+use crate::checking::{check_read, states_no_default};
 use crate::note::Note;
 use crate::noting::notes_of;
 use convert_trees::table_of;
@@ -81,14 +82,14 @@ fn unsupported(alloc: Global) -> Fault
     }
 }
 
-// Values that are stated aren't checked yet, so where some are, nothing is emitted.
+// Defaults that are stated aren't checked yet, so where some are, nothing is emitted.
 fn checked(alloc: Global, emitted: Emitted) -> Result<Emitted, Fault>
     ensures same { IfOk result (λ e. e ≡ emitted) }
-    ensures none { OnOk result (states_nothing_of (conversions_view emitted.table) ≡ true) }
+    ensures none { OnOk result (states_no_default_of (conversions_view emitted.table) ≡ true) }
     ensures told { IfErr result (λ f. fault_view f ≡ unsupported_at [] NotYet) }
-    ensures some { OnErr result (states_nothing_of (conversions_view emitted.table) ≡ false) }
+    ensures some { OnErr result (states_no_default_of (conversions_view emitted.table) ≡ false) }
 {
-    if states_nothing(&emitted.table) {
+    if states_no_default(&emitted.table) {
         Ok(emitted)
     } else {
         Err(unsupported(alloc))
@@ -99,7 +100,8 @@ fn checked(alloc: Global, emitted: Emitted) -> Result<Emitted, Fault>
 /// lead to has an item, and names are given where wanted ones can't be had. `depth` bounds the steps from a definition or the root to
 /// a schema of it, and the places of a list that is shorter than its sizes. Notes say where the items don't take exactly what is admitted.
 /// Refused is the first fault in the order of conversion: the definitions by name, then the root, each schema before its
-/// parts. Then a document that states a default, or in which a rule lists values, is told as `Unsupported` of kind `NotYet` at the root.
+/// parts. Then the first listed value, in the same order, that the type of its schema's other keywords doesn't read (`InvalidValue`); then
+/// a document that states a default at an optional property is told as `Unsupported` of kind `NotYet` at the root.
 /// `Texts` comes where the judge of texts failed, `Memory` where memory runs out.
 #[tactic(auto, using(crate::proofs::Firsts::refused_all, crate::proofs::Firsts::without_memory))]
 pub fn converted<T: Texts>(
@@ -112,7 +114,8 @@ pub fn converted<T: Texts>(
     ensures emission { IfOk result (λ e. emitted_view e ≡ emission_of (T.relations texts.old) (document_seen document.now) depth) }
     ensures notes { IfOk result (λ e. e.notes.items ≡ map note_of (notes_of (T.relations texts.old) (document_seen document.now) depth)) }
     ensures faultless { OnOk result (faults_of (T.relations texts.old) (document_seen document.now) depth ≡ []) }
-    ensures built { OnOk result (states_nothing_of (emission_of (T.relations texts.old) (document_seen document.now) depth).conversions ≡ true) }
+    ensures read { OnOk result (unread_in_document (T.relations texts.old) (document_seen document.now) depth ≡ []) }
+    ensures built { OnOk result (states_no_default_of (emission_of (T.relations texts.old) (document_seen document.now) depth).conversions ≡ true) }
     ensures refused { IfErr result (λ f. IsRefusal (T.relations texts.old) (document_seen document.now) depth (T.faults texts.old) (T.faults texts.new) (fault_view f)) }
     ensures keeps { T.relations texts.new ≡ T.relations texts.old }
     ensures counts { T.faults texts.old ≤ T.faults texts.new }
@@ -120,6 +123,7 @@ pub fn converted<T: Texts>(
     read_documents_are_planned();
     plans_are_formed();
     let converted = table_of(alloc, document, depth, texts)?;
+    check_read(converted.unread)?;
     let notes = converted.notes;
     match from_table(alloc, &converted.table, notes) {
         Ok(emitted) => {

@@ -32,13 +32,13 @@ use Rattle.document_defs.proofs.Composed.{documents_mean_items}
 use Rattle.derive_model.specs.VerdictView.{verdict_view}
 use Rattle.typify_convert.specs.Note.{way_of, note_of}
 use Rattle.typify_convert.specs.Emitted.{emission_of}
-use Rattle.typify_convert.specs.Stated.{is_none_of, is_of_texts, states_nothing}
+use Rattle.typify_convert.specs.Stated.{is_none_of, states_no_default}
 use Rattle.typify_run.specs.Headline as headline
 use Rattle.typify_run.specs.Headline.{Deriving, read_of, items_of, HasNone, IsNarrowed, IsWidened, report_reads, document_admits, IsReportOf}
 use Rattle.typify_run.specs.Page.{ArePrintable}
 use Rattle.typify_run.specs.Examine.{as_it_stands, IsMadeOf}
 use Rattle.typify_run.specs.declared.report.Report.{Report}
-use Rattle.typify_run.proofs.Judged.{both_true, judged_alike, printable}
+use Rattle.typify_run.proofs.Judged.{judged_alike, printable}
 
 -- ---- lists
 
@@ -137,13 +137,13 @@ module _ (r : Relations) (d : Document) (depth : ℕ) (values : List Data) (repo
   undefaulted : (conversions_view report.conversions).defaults ≡ []
   undefaulted =
       ap (λ (k : Emission). k.conversions.defaults) h.emission
-      ∙ none_listed emitted.conversions.defaults (both_true (is_none_of emitted.conversions.defaults) (list_all is_of_texts emitted.conversions.constraints) h.unstated).0
+      ∙ none_listed emitted.conversions.defaults h.unstated
 
   pub all_printable : are_i64 values ≡ true → ArePrintable (map verdict_view report.verdicts.items)
   all_printable i =
       printable (read_of as_it_stands (items_of report)) (conversions_view report.conversions) r (headline.root_of report) values (map verdict_view report.verdicts.items)
       ends (ap (list_all has_json_numbers) undefaulted) i h.verdicts
 
--- stated values are none
-pub none_stated : (k : Emission) → states_nothing k.conversions ≡ true → k.conversions.defaults ≡ []
-none_stated k h = none_listed k.conversions.defaults (both_true (is_none_of k.conversions.defaults) (list_all is_of_texts k.conversions.constraints) h).0
+-- stated defaults are none
+pub none_stated : (k : Emission) → states_no_default k.conversions ≡ true → k.conversions.defaults ≡ []
+none_stated k h = none_listed k.conversions.defaults h

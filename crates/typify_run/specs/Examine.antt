@@ -15,7 +15,8 @@ use Rattle.convert_defs.specs.Convert.{notes_of}
 use Rattle.convert_defs.specs.Faults.{faults_of}
 use Rattle.typify_convert.specs.Note.{note_of}
 use Rattle.typify_convert.specs.Emitted.{emission_of}
-use Rattle.typify_convert.specs.Stated.{is_none_of, states_nothing}
+use Rattle.convert_trees.specs.Unread.{unread_in_document}
+use Rattle.typify_convert.specs.Stated.{is_none_of, states_no_default}
 use Rattle.typify_convert.specs.Refused as convert
 use Rattle.schema_tree.specs.Conversions.{conversions_view}
 use Rattle.attr_parts.specs.declared.derive.Derive.TheVariants.{Deserialize}
@@ -25,10 +26,10 @@ use Rattle.typify_run.specs.Verdicts.{AreVerdicts}
 use Rattle.typify_run.specs.Headline.{Deriving, read_of, items_of, root_of, emission_in}
 use Rattle.typify_run.specs.declared.report.Report.{Report}
 
--- no schema of the document has a fault, and no value is stated that would have to be checked
+-- no schema of the document has a fault, each listed value is read by the type of its schema's other keywords, and no default is stated, which would have to be checked
 abbrev pub is_converted : Relations → ℕ → Option Document → Bool
 is_converted r depth None = false
-is_converted r depth (Some d) = is_none_of (faults_of r d depth) && states_nothing (emission_of r d depth).conversions
+is_converted r depth (Some d) = is_none_of (faults_of r d depth) && (is_none_of (unread_in_document r d depth) && states_no_default (emission_of r d depth).conversions)
 
 -- the values' numbers are i64, and the schema is a document that is converted
 abbrev pub is_examined : Relations → ℕ → Value → List Data → Bool
@@ -61,18 +62,20 @@ pub record IsMadeOf (r : Relations) (d : Document) (depth : ℕ) (values : List 
   pub emission : emission_in report ≡ emission_of r d depth
   pub notes : report.notes.items ≡ map note_of (notes_of r d depth)
   pub faultless : faults_of r d depth ≡ []
-  pub unstated : states_nothing (emission_of r d depth).conversions ≡ true
+  pub listed : unread_in_document r d depth ≡ []
+  pub unstated : states_no_default (emission_of r d depth).conversions ≡ true
   pub verdicts : AreVerdicts (read_of as_it_stands (items_of report)) (conversions_view report.conversions) r (root_of report) values (map verdict_view report.verdicts.items)
 
 abbrev pub IsUnreported : Relations → Document → ℕ → ℕ → ℕ → FaultD → Type 0
 IsUnreported r d depth before after f = convert.IsRefusal r d depth before after f
 
 -- The report is of what is emitted for the document that the schema is: the items, the table of conversions and the root's type are the emission of the
--- table of its entries, and the notes are its notes, in their order. Its schemas have no fault, and no value is stated that would have to be checked.
+-- table of its entries, and the notes are its notes, in their order. Its schemas have no fault, each listed value is read, and no default is stated, which would have to be checked.
 pub record IsEmission (r : Relations) (depth : ℕ) (schema : Value) (report : Report) : Type 0 where
   pub document : Document
   pub is_read : IsReadAs Strict schema document
   pub emission : emission_in report ≡ emission_of r document depth
   pub notes : report.notes.items ≡ map note_of (notes_of r document depth)
   pub faultless : faults_of r document depth ≡ []
-  pub unstated : states_nothing (emission_of r document depth).conversions ≡ true
+  pub listed : unread_in_document r document depth ≡ []
+  pub unstated : states_no_default (emission_of r document depth).conversions ≡ true

@@ -36,6 +36,7 @@ returns-clause-report g c =
       emission = is.emission;
       notes = is.notes;
       faultless = is.faultless;
+      listed = is.read;
       unstated = is.built;
       verdicts = subst (λ (is : List DeriveInput). AreVerdicts (read_of as_it_stands (map item_view is)) cs r t values verdicts) c.deref.ensures.value told;
     }
