@@ -1,0 +1,4 @@
+pub mod Steps
+pub mod Faults
+pub mod Loops
+pub mod Chains
