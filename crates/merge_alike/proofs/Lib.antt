@@ -1,0 +1,3 @@
+pub mod SameSchemas
+pub mod Lists
+pub mod Views
