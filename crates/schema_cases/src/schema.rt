@@ -32,12 +32,18 @@ pub fn looked_up(alloc: Global, steps: &str, text: &str) -> Result<String, Alloc
     }
 }
 
-/// The title of what a reference leads to in a document.
+/// The title of what a reference leads to in a document, and where it stands.
 pub fn referred_to(alloc: Global, reference: &str, text: &str) -> Result<String, AllocError> {
-    match document(alloc, text) {
-        Some(document) => String::from_str(alloc, title(document.target(reference))),
-        None => String::from_str(alloc, "no document"),
+    let Some(document) = document(alloc, text) else {
+        return String::from_str(alloc, "no document");
+    };
+    let mut answer = String::from_str(alloc, title(document.target(reference)))?;
+    if let Some(at) = document.parts().target_location(alloc, reference)? {
+        let place = at.text(alloc)?;
+        answer.push_str(" at ")?;
+        answer.push_str(place.as_str())?;
     }
+    Ok(answer)
 }
 
 /// Whether the root's `type`, `enum` and `const` take a value, and whether a copy of the root is the same.

@@ -14,7 +14,8 @@ use Rattle.std.specs.BTreeMap.{is_at}
 use Rattle.std.specs.Str.Pattern.{FindsTextPrefix, LacksTextAt, StripsPrefix}
 use Rattle.schema_defs.specs.Schema as defs
 use Rattle.schema_defs.specs.Location.{unescaped, after_tilde}
-use Rattle.schema_defs.specs.Admits.{defined, without_prefix}
+use Rattle.schema_defs.specs.Admits.{defined, without_prefix, definition_word, definition_location}
+use Rattle.schema_defs.proofs.Guarded.{defined_named}
 use Rattle.schema_defs.specs.Children.{definition_node, at_schema}
 use Rattle.schema_defs.specs.Laws.{NamesRise}
 use Rattle.json_value.specs.Value.{same_bool}
@@ -96,6 +97,20 @@ definition_placed b u s (Some e) h =
 pub definition_absent : (b : Bool) (o : Option defs.Definition) → None ≡ option_map placed_of o → definition_node b o ≡ None
 definition_absent b None h = refl
 definition_absent b (Some e) h = cc
+
+-- where a definition that is found stands
+pub located : (n : List ℕ) (ds : List defs.Definition) (u : Bool) (s : defs.Schema) → Some (placed_pair u s) ≡ option_map placed_of (defined n ds) → Some (definition_word u ∷ n ∷ []) ≡ option_map definition_location (defined n ds)
+located n ds u s h = by_found (defined n ds) refl h
+  where
+    by_found : (o : Option defs.Definition) → defined n ds ≡ o → Some (placed_pair u s) ≡ option_map placed_of o → Some (definition_word u ∷ n ∷ []) ≡ option_map definition_location o
+    by_found None f h = cc
+    by_found (Some e) f h =
+        let same : placed_of e ≡ placed_pair u s = cc in
+        λ i. Some (definition_word (sym same i).0 ∷ (defined_named n ds e f).0 i ∷ [])
+
+pub not_located : (o : Option defs.Definition) → None ≡ option_map placed_of o → None ≡ option_map definition_location o
+not_located None h = refl
+not_located (Some e) h = cc
 
 -- ---- names
 

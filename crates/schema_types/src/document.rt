@@ -1,7 +1,7 @@
 //! A schema document: the root, and the definitions by name.
-ghost use Rattle.std.specs.Prelude.{◌≡◌, [], ◌∷◌, MatchOption, map, option_map};
+ghost use Rattle.std.specs.Prelude.{◌≡◌, [], ◌∷◌, IfOk, MatchOption, map, option_map};
 ghost use Rattle.schema_defs.specs.Location.{unescaped};
-ghost use Rattle.schema_defs.specs.Admits.{defined, target};
+ghost use Rattle.schema_defs.specs.Admits.{defined, definition_location, definition_word, target, target_location};
 ghost use Rattle.schema_defs.specs.Children.{schema_at};
 ghost use Rattle.schema_defs.specs.Laws.{NamesRise};
 ghost use Rattle.schema_types.specs.View.{schema_view};
@@ -12,6 +12,7 @@ use crate::place::{Node, after, schema_of};
 use crate::reference::{decodes_to, is_escaped, written_name};
 use crate::schema::Schema;
 use schema_defs::Setting;
+use std::alloc::{AllocError, Global};
 use std::collections::BTreeMap;
 use std::collections::btree_map::Keys;
 use std::marker::Model;
@@ -93,6 +94,24 @@ impl Document {
         }
     }
 
+    /// Where the target of a reference stands: the root for `#`, and else the definition's place under the keyword that it stands under, whichever of the two
+    /// the reference writes; nothing where the reference has no target.
+    pub fn target_location(
+        &self,
+        alloc: Global,
+        reference: &str,
+    ) -> Result<Option<Location>, AllocError>
+        ensures { IfOk result (λ x. x ≡ target_location (document_view self.now) reference.now) }
+    {
+        if reference == "#" {
+            return Ok(Some(Location::root(alloc)));
+        }
+        match written_name(reference) {
+            Some(name) => self.decoded_location(alloc, name),
+            None => Ok(None),
+        }
+    }
+
     /// The names of the definitions, in their order. It takes no memory.
     #[tactic(auto, using(crate::proofs::References::names_of_view, crate::proofs::References::names_rise))]
     pub fn names(&self) -> Names<'_>
@@ -130,6 +149,39 @@ impl Document {
         }
         None
     }
+
+    // Where the definition of the name that the text decodes to stands.
+    #[tactic(auto, using(crate::proofs::References::plain_decodes))]
+    fn decoded_location(&self, alloc: Global, escaped: &str) -> Result<Option<Location>, AllocError>
+        ensures { IfOk result (λ x. x ≡ option_map definition_location (defined (unescaped escaped.now) (document_view self.now).definitions)) }
+    {
+        if !is_escaped(escaped) {
+            return self.named_location(alloc, escaped);
+        }
+        for (name, _) in self.definitions.iter() {
+            if decodes_to(escaped, name) {
+                return self.named_location(alloc, name);
+            }
+        }
+        Ok(None)
+    }
+
+    // Where the definition of a name stands.
+    fn named_location(&self, alloc: Global, name: &str) -> Result<Option<Location>, AllocError>
+        ensures { IfOk result (λ x. x ≡ option_map definition_location (defined name.now (document_view self.now).definitions)) }
+    {
+        match self.placed(name) {
+            Some(definition) => Ok(Some(definition_place(alloc, definition.under_defs, name)?)),
+            None => Ok(None),
+        }
+    }
+}
+
+fn definition_place(alloc: Global, under_defs: bool, name: &str) -> Result<Location, AllocError>
+    ensures { IfOk result (λ l. l ≡ definition_word under_defs ∷ name.now ∷ []) }
+{
+    let word = if under_defs { "$defs" } else { "definitions" };
+    Location::root(alloc).child(alloc, word)?.child(alloc, name)
 }
 
 /// The names of a document's definitions that are left, in their order. It is seen as the list of them.
