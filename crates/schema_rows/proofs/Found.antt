@@ -1,18 +1,13 @@
 -- The first of the lines that fits, by runs.
 use Rattle.std.proofs.Common.{◌≡◌, ℕ, List, [], ◌∷◌, ◌++◌, Bool, true, false, ◌&&◌, Option, Some, None, is_some, refl, sym, ap, ◌∙◌}
 use Rattle.std.specs.Prelude.{if◌then◌else◌}
-use Rattle.json_value.specs.Value as value
-use Rattle.json_value.specs.Value.{Value, text}
-use Rattle.enum_defs.specs.Words.{as_text}
 use Rattle.schema_defs.specs.Texts.{Relations}
 use Rattle.schema_defs.specs.Schema.{Plain, object, Same, Lists, Named, Document}
 use Rattle.convert_defs.specs.Row.{Finding, Note, add_notes}
 use Rattle.convert_defs.specs.Table.{Line, first_line, finding_of, finding_or}
 use Rattle.type_rows.specs.Line.{line, sooner, first_found}
-use Rattle.schema_rows.specs.Runs.{found_or, first_lines, second_lines, third_lines, fourth_lines, last_lines, by_runs}
-
-none-some : {A : Type 0} {x : A} → None ≡ Some x → ⊥
-none-some h = cc
+use Rattle.line_rows.specs.Runs.{first_lines, second_lines, third_lines, last_lines}
+use Rattle.schema_rows.specs.Runs.{found_or, fourth_lines, by_runs}
 
 lines-then : (ls ms : List Line) → found_or (first_found ls) (first_line ms) ≡ first_line (ls ++ ms)
 lines-then [] ms = refl
@@ -41,28 +36,11 @@ module _ (r : Relations) (d : Document) (p : Plain) (ss : Same) (ls : Lists) (ns
       ∙ lines-then (second_lines r d p ss ls ns) (third_lines r d p ss ls ns ++ (fourth_lines r d p ss ls ns ++ (last_lines r d p ss ls ns ++ []))))
       ∙ lines-then (first_lines r d p ss ls ns) (second_lines r d p ss ls ns ++ (third_lines r d p ss ls ns ++ (fourth_lines r d p ss ls ns ++ (last_lines r d p ss ls ns ++ []))))
 
--- the first line fits, or what is found of the others is found
-pub taken : {o : Option Finding} (m : Option Finding) (f : Finding) → Some f ≡ o → Some f ≡ sooner o m
-taken m f h = λ i. sooner (h i) m
-
-pub passed : {o m x : Option Finding} → None ≡ o → x ≡ m → x ≡ sooner o m
-passed {m = m} h e = e ∙ (λ i. sooner (h i) m)
-
 pub found : {o : Option Finding} (g : Finding) (f : Finding) → Some f ≡ o → f ≡ found_or o g
 found g f h = λ i. found_or (h i) g
 
 pub missed : {o : Option Finding} {g x : Finding} → None ≡ o → x ≡ g → x ≡ found_or o g
 missed {g = g} h e = e ∙ (λ i. found_or (h i) g)
-
--- a value that is read as a text is that text
-pub text_is : (v : Value) (s : List ℕ) → as_text v ≡ Some s → v ≡ text s
-text_is value.null s h = absurd (none-some h)
-text_is (value.boolean b) s h = absurd (none-some h)
-text_is (value.number z) s h = absurd (none-some h)
-text_is value.fraction s h = absurd (none-some h)
-text_is (text t) s h = cc
-text_is (value.list xs) s h = absurd (none-some h)
-text_is (value.object ms) s h = absurd (none-some h)
 
 -- a line of two tests
 pub not_both : (a b : Bool) (f : Finding) → b ≡ false → line (a && b) f ≡ None

@@ -1,4 +1,4 @@
--- The lines of the table, by fives.
+-- The lines of references with others, of listed values and of subschemas, and the runs one after the other.
 use Rattle.std.specs.Prelude.{◌&&◌, ◌||◌, not, List, [], ◌∷◌, ◌++◌, is_none, is_some, Option, Some, None}
 use Rattle.std.specs.List.{list_all}
 use Rattle.schema_defs.specs.declared.InstanceType.TheVariants.{Null, Boolean, Object, Array, Number, Text, Integer}
@@ -13,6 +13,7 @@ use Rattle.convert_defs.specs.IntegerRow.{integer_of, integer_notes, note_if}
 use Rattle.convert_defs.specs.Scalars.{string_finding, enumerated, boolean_finding, listed_alone, wanted_of, patterns_in}
 use Rattle.convert_defs.specs.Owners.{array_finding, object_finding}
 use Rattle.type_rows.specs.Line.{first_found}
+use Rattle.line_rows.specs.Runs.{first_lines, second_lines, third_lines, last_lines}
 use Rattle.convert_defs.specs.Table.{Line, type_beside_null, nullable, nullable_notes, listed, allowed_row, has_one_type, many_of, type_among, every_type, only_type, with_type, same_types, reference_row, target_types, target_part, no_others, subschema_finding, constant_of, constant_finding, finding_or, ◌⇒◌, untyped, type_variants}
 
 abbrev pub found_or : Option Finding → Finding → Finding
@@ -20,33 +21,6 @@ found_or None g = g
 found_or (Some f) g = f
 
 module _ (r : Relations) (d : Document) (p : Plain) (ss : Same) (ls : Lists) (ns : Named) where
-  abbrev pub first_lines : List Line
-  first_lines =
-      (has_conditional ss ⇒ plainly (refused_row conditional))
-      ∷ (is_some (type_beside_null p.types) ⇒ noted (nullable_notes p ss) (nullable p ss ls ns (type_beside_null p.types)))
-      ∷ (has_type Text p.types && is_bare p ss ⇒ asking (patterns_in p) (string_finding p))
-      ∷ (is_none p.types && is_some p.texts && is_none p.numbers && is_bare p ss && without_lists ls && without_named ns ⇒ asking (patterns_in p) (add_notes untyped (string_finding p)))
-      ∷ (has_type Text p.types && is_some p.enum_values && is_none p.const_value && is_none p.reference && without_same ss ⇒ asking (patterns_in p) (enumerated r p (listed p.enum_values)))
-      ∷ []
-
-  abbrev pub second_lines : List Line
-  second_lines =
-      (is_some (constant_of p) && (is_none p.types || has_type Text p.types) && is_none p.reference && without_same ss ⇒ asking (patterns_in p) (constant_finding r p (constant_of p)))
-      ∷ (has_type Integer p.types && is_bare p ss ⇒ noted (integer_notes p) (leaf_row (integer_entry (integer_of p))))
-      ∷ (has_type Boolean p.types && is_none p.format && is_none p.const_value && is_none p.reference && without_same ss ⇒ boolean_finding p.enum_values)
-      ∷ (has_type Object p.types && is_none p.format && is_bare p ss ⇒ object_finding d.setting ns)
-      ∷ (is_untyped p && is_bare p ss && without_lists ls && not (without_named ns) ⇒ add_notes untyped (object_finding d.setting ns))
-      ∷ []
-
-  abbrev pub third_lines : List Line
-  third_lines =
-      (has_type Array p.types && is_none p.format && is_bare p ss ⇒ array_finding ls)
-      ∷ (is_untyped p && is_bare p ss && without_named ns && not (without_lists ls) ⇒ add_notes untyped (array_finding ls))
-      ∷ (is_untyped p && is_bare p ss && without_lists ls && without_named ns ⇒ plainly (leaf_row any_entry))
-      ∷ (has_type Null p.types && is_bare p ss ⇒ plainly (leaf_row unit_entry))
-      ∷ (is_some p.reference && is_none p.types && no_others (less_reference p) ls ns && without_same ss ⇒ plainly (reference_row p.reference))
-      ∷ []
-
   abbrev pub fourth_lines : List Line
   fourth_lines =
       (is_some p.reference && same_types p.types (target_types d p.reference) && no_others (less_reference p) ls ns && without_same ss ⇒ plainly (reference_row p.reference))
@@ -58,27 +32,18 @@ module _ (r : Relations) (d : Document) (p : Plain) (ss : Same) (ls : Lists) (ns
       ⇒ add_notes (note_if (is_some p.types) (here widened type_note)) (finding_or (subschema_finding d (wanted_of p) ss)))
       ∷ []
 
-  abbrev pub last_lines : List Line
-  last_lines =
-      (not (without_same ss) ⇒ plainly (merged_row (made (object p no_same ls ns) ∷ made (object no_keyword ss no_lists no_named) ∷ [])))
-      ∷ (is_some p.const_value ⇒ noted (here widened const_note ∷ []) (as_it_is_row (made (object (less_const p) ss ls ns))))
-      ∷ (list_all (λ k. type_among k p.types) every_type ⇒ plainly (as_it_is_row (made (object (less_types p) ss ls ns))))
-      ∷ (is_some (only_type p.types) ⇒ plainly (with_type p ss ls ns (only_type p.types)))
-      ∷ (is_some (many_of p.types) && is_bare p ss && not (type_among Number p.types) ⇒ plainly (enum_row untagged by_contents (type_variants p ls ns)))
-      ∷ []
-
   -- the runs, one after the other, and those after a run
   abbrev pub after_fourth : Finding
-  after_fourth = found_or (first_found last_lines) (plainly (refused_row mix))
+  after_fourth = found_or (first_found (last_lines r d p ss ls ns)) (plainly (refused_row mix))
 
   abbrev pub after_third : Finding
   after_third = found_or (first_found fourth_lines) after_fourth
 
   abbrev pub after_second : Finding
-  after_second = found_or (first_found third_lines) after_third
+  after_second = found_or (first_found (third_lines r d p ss ls ns)) after_third
 
   abbrev pub after_first : Finding
-  after_first = found_or (first_found second_lines) after_second
+  after_first = found_or (first_found (second_lines r d p ss ls ns)) after_second
 
   abbrev pub by_runs : Finding
-  by_runs = found_or (first_found first_lines) after_first
+  by_runs = found_or (first_found (first_lines r d p ss ls ns)) after_first

@@ -1,9 +1,7 @@
 //! The first row of the table of conversion that fits a schema, and what it finds.
 #![tactic(auto)]
 
-mod owners;
-mod runs;
-mod scalars;
+mod fourth;
 mod several;
 mod table;
 

@@ -9,7 +9,8 @@ ghost use Rattle.row_types.specs.Given.{plain_view, same_view, lists_view, named
 ghost use Rattle.row_types.specs.View.{finding_view};
 ghost use Rattle.schema_rows.specs.Runs.{by_runs, after_first, after_second, after_third, after_fourth};
 
-use crate::runs::{first_run, fourth_run, last_run, second_run, third_run};
+use crate::fourth::fourth_run;
+use line_rows::{first_run, last_run, second_run, third_run};
 use row_types::{Cause, Finding, Keywords, Leaf, Row, Source, keywords_of, plainly, refused};
 use schema_tree::{Document, Schema};
 use schema_types::SchemaObject;

@@ -1,3 +1,1 @@
-pub mod Tagged
 pub mod Only
-pub mod Denied

@@ -9,10 +9,10 @@ ghost use Rattle.convert_defs.specs.Table.{all_of_finding as all_of_finding_of, 
 ghost use Rattle.row_types.specs.View.{finding_view};
 ghost use Rattle.member_rows.specs.Members.{member_view};
 
-use crate::one_of::{is_exclusive, one_of_finding, untagged_row};
 use member_rows::{
     Member, child_part, child_parts, has_odd_null, lone_part, only_member, option_member,
 };
+use one_of_rows::{is_exclusive, one_of_finding, untagged_row};
 use row_types::{Finding, Leaf, NoteKind, Row, Way, noted, plainly, with_note};
 use schema_tree::{Document, Schema};
 use std::alloc::{AllocError, Global};

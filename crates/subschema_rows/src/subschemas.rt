@@ -12,10 +12,10 @@ ghost use Rattle.row_types.specs.Given.{plain_view, same_view};
 ghost use Rattle.row_types.specs.View.{finding_view};
 ghost use Rattle.subschema_rows.specs.Only.{by_all, by_any, by_one, by_not, all_in, any_in, one_in, none_in, is_missing, is_absent, conditional_in};
 
-use crate::denied::not_finding;
 use crate::lists::{all_of_finding, any_of_finding};
-use crate::one_of::one_of_finding;
+use denied_rows::not_finding;
 use member_rows::members_in;
+use one_of_rows::one_of_finding;
 use row_types::{Finding, Keyword, Keywords};
 use schema_tree::{Document, Schema, Subschemas};
 use std::alloc::{AllocError, Global};

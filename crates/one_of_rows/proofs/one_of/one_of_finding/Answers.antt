@@ -1,0 +1,20 @@
+use Rattle.std.proofs.Common.{◌≡◌, ◌++◌, not, map, sym, ap, ◌∙◌}
+use Rattle.schema_tree.specs.Document.{view}
+use Rattle.convert_defs.specs.Row.{noted, plainly, option_row, as_it_is_row, here, widened, null_note, overlap_note}
+use Rattle.convert_defs.specs.IntegerRow.{note_if}
+use Rattle.row_types.specs.View.{note_view}
+use Rattle.member_rows.specs.Members.{member_view}
+use Rattle.convert_defs.specs.Table.{one_of_option}
+use Rattle.one_of_rows.proofs.one_of.one_of_finding.Goals as goal
+
+pub returns-in_ok-notes-in-Some : goal.returns-in_ok-notes-in-Some
+returns-in_ok-notes-in-Some c =
+    let d = view c.args.document.now in
+    let ms = map member_view c.args.members.now in
+    let odd = c.in_ok-odd-in-Some.ensures ∙ (λ i. map note_view (c.new.ensures.items i) ++ note_if (c.has_odd_null.ensures i) (here widened null_note)) in
+    let both = c.in_ok-notes-in-Some.ensures ∙ (λ i. odd i ++ note_if (c.is_null_twice.ensures i) (here widened null_note)) in
+    λ r name. c.noted.ensures r ∙ (λ i. noted (both i) (option_row (c.child_part.ensures i))) ∙ ap (one_of_option d ms) c.in-Some.ensures
+
+pub returns-in_ok-finding-in-None : goal.returns-in_ok-finding-in-None
+returns-in_ok-finding-in-None c =
+    λ r name. c.in_ok-finding-in-None.ensures r ∙ ap (one_of_option (view c.args.document.now) (map member_view c.args.members.now)) c.in-None.ensures
