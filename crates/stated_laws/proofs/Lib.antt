@@ -1,0 +1,4 @@
+pub mod Leaves
+pub mod Quiet
+pub mod Named
+pub mod Converted
