@@ -1,5 +1,5 @@
 -- A table's names, step by step.
-use Rattle.std.proofs.Common.{◌≡◌, ◌<◌, ◌++◌, ℕ, zero, suc, List, [], ◌∷◌, map, length, take, get_or, codes, refl, ap, ◌∙◌, arith}
+use Rattle.std.proofs.Common.{◌≡◌, ◌<◌, ◌++◌, ℕ, zero, suc, List, [], ◌∷◌, map, length, take, get_or, codes, refl, ap, subst, ◌∙◌, arith}
 use Rattle.std.proofs.lemmas.List.{length-map}
 use Rattle.entry_defs.specs.Entry as defs
 use Rattle.entry_defs.specs.Entry.{the_root, definition, Entry, item, Shape}
@@ -8,6 +8,7 @@ use Rattle.naming_defs.specs.Names.{Names, item_name, named, named_shape, after_
 use Rattle.naming_defs.specs.Good.{is_good_name}
 use Rattle.good_names.specs.Given.{Stands, Does}
 use Rattle.entry_trees.specs.View.{label_view, target_view, tree_view, item_in, target_entry}
+use Rattle.tree_names.specs.Folded.{targets_first}
 use Rattle.tree_names.specs.Seen.{item_named, target_named, targets_given, targets_named, trees_named, with_names}
 use Rattle.good_names.specs.declared.given.GivenNames.{GivenNames}
 use Rattle.entry_trees.specs.declared.tree.Label.{Label}
@@ -77,15 +78,19 @@ both_at (x ∷ xs) (m ∷ ns) (suc i) d n h k = ap (λ z. (x, m) ∷ z) (both_at
 
 -- ---- all of it
 
-pub table_does : (s0 s1 s2 s3 : GivenNames) (t : Table) (ns : Names) (ts : List TargetEntry) (es : List Entry) → ((p : List ℕ) → Stands s0 p [] (keys is_good_name t.targets))
-    → Does T s0 s1 ns (targets_given t.targets) → Does T s1 s2 ts (targets_named (with_names t.targets ns)) → Does T s2 s3 es (trees_named t.trees)
-    → record { targets = ts; trees = es } ≡ named_table is_good_name t
-table_does s0 s1 s2 s3 t ns ts es st a b c =
-    let k = keys is_good_name t.targets in
-    let u = after_targets is_good_name k [] t.targets in
+pub targets_do : (s0 s1 s2 : GivenNames) (xs : List TargetEntry) (ns : Names) (ts : List TargetEntry) → ((p : List ℕ) → Stands s0 p [] (keys is_good_name xs)) → Does T s0 s1 ns (targets_given xs)
+    → Does T s1 s2 ts (targets_named (with_names xs ns)) → (ts ≡ (targets_first xs).1) × Stands s2 T (targets_first xs).0 (keys is_good_name xs)
+targets_do s0 s1 s2 xs ns ts st a b =
+    let k = keys is_good_name xs in
+    let u = after_targets is_good_name k [] xs in
     let x = a.step k [] (st T) in
-    let y = b.step k (targets_given t.targets k []).0 x.1 in
-    let same : targets_named (with_names t.targets ns) k (targets_given t.targets k []).0 ≡ named_targets is_good_name k [] t.targets u
-    = (λ i. targets_named (with_names t.targets (x.0 i)) k (given_after k t.targets [] i)) ∙ targets_are k t.targets [] u in
-    let z = c.step k (targets_named (with_names t.targets ns) k (targets_given t.targets k []).0).0 y.1 in
-    λ i. record { targets = (y.0 ∙ ap (λ w. w.1) same) i; trees = (z.0 ∙ ap (λ w. w.1) (trees_are k t.trees _ ∙ ap (λ w. named_trees is_good_name k t.trees w.0) same)) i }
+    let y = b.step k (targets_given xs k []).0 x.1 in
+    let same : targets_named (with_names xs ns) k (targets_given xs k []).0 ≡ named_targets is_good_name k [] xs u
+    = (λ i. targets_named (with_names xs (x.0 i)) k (given_after k xs [] i)) ∙ targets_are k xs [] u in (y.0 ∙ ap (λ w. w.1) same, subst (λ (w : Names × List TargetEntry). Stands s2 T w.0 k) same y.1)
+
+pub table_does : (s r : GivenNames) (t : Table) (ts : List TargetEntry) (es : List Entry) → ts ≡ (targets_first t.targets).1 → Stands s T (targets_first t.targets).0 (keys is_good_name t.targets) → Does T s r es (trees_named t.trees)
+    → record { targets = ts; trees = es } ≡ named_table is_good_name t
+table_does s r t ts es e st c =
+    let k = keys is_good_name t.targets in
+    let z = c.step k (targets_first t.targets).0 st in
+    λ i. record { targets = e i; trees = (z.0 ∙ ap (λ w. w.1) (trees_are k t.trees (targets_first t.targets).0)) i }

@@ -6,4 +6,5 @@ mod labels;
 mod table;
 mod walk;
 
-pub use table::named_table;
+pub use table::{NamedTargets, named_table, named_targets};
+pub use walk::named_tree;

@@ -5,6 +5,7 @@ ghost use Rattle.naming_defs.specs.Names.{Names, keys, named_table as table_name
 ghost use Rattle.naming_defs.specs.Good.{is_good_name};
 ghost use Rattle.good_names.specs.Given.{Stands, Does, name_given};
 ghost use Rattle.entry_trees.specs.View.{label_view, rule_view, wrapped, tree_view, item_in, target_entry, table_view};
+ghost use Rattle.tree_names.specs.Folded.{targets_first};
 ghost use Rattle.tree_names.specs.Seen.{item_named, target_named, targets_given, targets_named, trees_named, with_names};
 
 use crate::identify::{identified_members, identified_variants};
@@ -272,7 +273,7 @@ fn named_target<'d>(
 }
 
 #[tactic(auto, using(crate::proofs::Turns::targets_begin, crate::proofs::Turns::targets_turn, crate::proofs::Turns::targets_end))]
-fn named_targets<'d>(
+fn labeled_targets<'d>(
     alloc: Global,
     names: &mut GivenNames,
     targets: &Vec<(Target, Tree<'d>)>,
@@ -305,15 +306,41 @@ fn named_trees<'d>(
     Ok(named)
 }
 
+/// Targets with their names, and the names that are given then.
+#[derive(Drop)]
+pub struct NamedTargets<'d> {
+    pub targets: Vec<(Target, Tree<'d>)>,
+    pub names: GivenNames,
+}
+
+/// The targets of a table with their names. Its trees come after them, one after another, each by `named_tree`. Fails only for
+/// want of memory.
+pub fn named_targets<'d>(
+    alloc: Global,
+    targets: &Vec<(Target, Tree<'d>)>,
+) -> Result<NamedTargets<'d>, AllocError>
+    ensures targets { IfOk result (λ n. map target_entry n.targets.items ≡ (targets_first (map target_entry targets.now.items)).1) }
+    ensures names { IfOk result (λ n. Stands n.names (codes "Type") (targets_first (map target_entry targets.now.items)).0 (keys is_good_name (map target_entry targets.now.items))) }
+{
+    let mut names = wanted_of_keys(alloc, targets)?;
+    let labels = target_labels(alloc, &mut names, targets)?;
+    let named = labeled_targets(alloc, &mut names, targets, &labels)?;
+    Ok(NamedTargets {
+        targets: named,
+        names,
+    })
+}
+
 /// The table with its names. Items are named in the order in which they are come to, first those that references lead to; fields
 /// and variants are named within what holds them. Fails only for want of memory.
-#[tactic(auto, using(crate::proofs::Tables::table_does))]
 pub fn named_table<'d>(alloc: Global, table: &TreeTable<'d>) -> Result<TreeTable<'d>, AllocError>
     ensures { IfOk result (λ t. table_view t ≡ table_named is_good_name (table_view table.now)) }
 {
-    let mut names = wanted_of_keys(alloc, &table.targets)?;
-    let labels = target_labels(alloc, &mut names, &table.targets)?;
-    let targets = named_targets(alloc, &mut names, &table.targets, &labels)?;
+    let named = named_targets(alloc, &table.targets)?;
+    let mut names = named.names;
     let trees = named_trees(alloc, &mut names, &table.trees)?;
-    Ok(TreeTable { targets, trees })
+    Ok(TreeTable {
+        targets: named.targets,
+        trees,
+    })
 }

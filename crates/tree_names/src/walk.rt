@@ -10,10 +10,11 @@ use entry_trees::{ContentKind, FieldHead, Label, Tree, VariantHead, Wrap};
 use good_names::GivenNames;
 use std::alloc::{AllocError, Global};
 
-/// The tree with the names of its items and within them.
+/// The tree with the names of its items and within them. Items are named in the order in which they are come to, after those that
+/// have their names. Fails only for want of memory.
 #[cycle(naming)]
 #[tactic(auto, using(crate::proofs::Walks::atom_does, crate::proofs::Walks::map_does, crate::proofs::Walks::tuple_does, crate::proofs::Walks::enum_whole, crate::proofs::Walks::one_whole, entry_trees::proofs::Sizes::one_falls, entry_trees::proofs::Sizes::keys_fall, entry_trees::proofs::Sizes::values_fall, entry_trees::proofs::Sizes::tuple_falls, entry_trees::proofs::Sizes::fields_fall, entry_trees::proofs::Sizes::rest_falls, entry_trees::proofs::Sizes::variants_fall))]
-pub(crate) fn named_tree<'d>(
+pub fn named_tree<'d>(
     alloc: Global,
     names: &mut GivenNames,
     from: &Tree<'d>,

@@ -1,10 +1,15 @@
-use Rattle.std.proofs.Common.{◌<◌, length, arith}
-use Rattle.tree_names.proofs.Turns.{targets_turn}
+use Rattle.std.proofs.Common.{map}
+use Rattle.entry_trees.specs.View.{label_view, target_entry}
+use Rattle.tree_names.proofs.Tables.{as_many, targets_do}
 use Rattle.tree_names.proofs.table.named_targets.Goals as goal
 
-pub loop-at-preserved : goal.loop-at-preserved
-loop-at-preserved c =
-    let h : c.loop-at.at < length c.args.targets.now.items = omega (arith, c.loop-at-test.true, c.len-at-end.ensures, c.args.targets.now.ok.0) in
-    let k : c.loop-at.at < length c.args.labels.now.items = omega (arith, h, c.requires) in
-    targets_turn _ _ _ c.loop-at.named.items c.push.new.self.items c.args.targets.now.items c.args.labels.now.items c.loop-at.at c.index-in-loop-at.result.now c.in_ok-target.target c.index.result.now c.loop-at.invariant h k
-    c.index-in-loop-at.ensures c.index.ensures c.in_ok-push.ensures.items c.in_ok-target.ensures
+pub labeled_targets-requires : goal.labeled_targets-requires
+labeled_targets-requires c = as_many _ _ c.args.targets.now.items c.in_ok-labels.labels.items c.in_ok-names.ensures c.in_ok-labels.ensures
+
+pub returns-clause-targets : goal.returns-clause-targets
+returns-clause-targets c =
+    (targets_do _ _ _ (map target_entry c.args.targets.now.items) (map label_view c.in_ok-labels.labels.items) (map target_entry c.in_ok-named.named.items) c.in_ok-names.ensures c.in_ok-labels.ensures c.in_ok-named.ensures).0
+
+pub returns-clause-names : goal.returns-clause-names
+returns-clause-names c =
+    (targets_do _ _ _ (map target_entry c.args.targets.now.items) (map label_view c.in_ok-labels.labels.items) (map target_entry c.in_ok-named.named.items) c.in_ok-names.ensures c.in_ok-labels.ensures c.in_ok-named.ensures).1
