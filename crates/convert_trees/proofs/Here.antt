@@ -16,8 +16,9 @@ use Rattle.convert_trees.specs.Nodes.{entry_at, nodes_at, parts_nodes, converted
 use Rattle.convert_trees.specs.Places.{TellsDepth}
 use Rattle.convert_trees.specs.Keeping.{KeptD}
 use Rattle.convert_trees.specs.Told as told
-use Rattle.convert_trees.specs.Told.{NoAnswer, RefusesBy, IsTold, IsToldOf, Tells, Refuses, by_none, by_fault}
-use Rattle.convert_trees.proofs.Telling.{own_refuses, branch_refuses, parts_refuse, told_whole, refuses_deep}
+use Rattle.convert_trees.specs.Told.{NoAnswer, RefusesBy, IsTold, IsToldOf, Tells, TellsStated, Refuses, by_none, by_fault}
+use Rattle.convert_trees.proofs.Telling.{own_refuses, stated_refuses, branch_refuses, parts_refuse, told_whole, refuses_deep}
+use Rattle.stated_laws.specs.Stated.{stated_steps}
 use Rattle.convert_trees.proofs.Entering.{built_here, entered_nodes, passed_nodes}
 
 -- the exit of a `?`
@@ -52,30 +53,36 @@ module _ (r : Relations) (d : Document) (most : ℕ) (n made : ℕ) (h : Handed)
       subst (λ (i : ℕ). Refuses r d most start old new (nodes_at r d n i h l s) f) (one_more made m)
       (own_refuses r d most n (made - 1) h l s start f old new (subst (λ (fd : Finding). RefusesBy l s fd old new (finding_faults r d most fd) f) e k))
 
-  pub branches_here : (start : Location) (f : FaultD) (old new : ℕ) → (made ≡ 0 → ⊥) → fd ≡ finding_of r d s → finding_faults r d most fd ≡ []
-      → Refuses r d most start old new (cut_branches n l fd.branches) f → Refuses r d most start old new (nodes_at r d n made h l s) f
-  branches_here start f old new m e g k =
+  pub stated_here : (start : Location) (f : FaultD) (old new : ℕ) → (made ≡ 0 → ⊥) → fd ≡ finding_of r d s → finding_faults r d most fd ≡ []
+      → TellsStated l (stated_steps fd.row) f → Refuses r d most start old new (nodes_at r d n made h l s) f
+  stated_here start f old new m e g k =
       subst (λ (i : ℕ). Refuses r d most start old new (nodes_at r d n i h l s) f) (one_more made m)
-      (branch_refuses r d most n (made - 1) h l s start f old new (ap (finding_faults r d most) (sym e) ∙ g)
+      (stated_refuses r d most n (made - 1) h l s start f old new (ap (finding_faults r d most) (sym e) ∙ g) (subst (λ (fd : Finding). TellsStated l (stated_steps fd.row) f) e k))
+
+  pub branches_here : (start : Location) (f : FaultD) (old new : ℕ) → (made ≡ 0 → ⊥) → fd ≡ finding_of r d s → finding_faults r d most fd ≡ [] → stated_steps fd.row ≡ []
+      → Refuses r d most start old new (cut_branches n l fd.branches) f → Refuses r d most start old new (nodes_at r d n made h l s) f
+  branches_here start f old new m e g u k =
+      subst (λ (i : ℕ). Refuses r d most start old new (nodes_at r d n i h l s) f) (one_more made m)
+      (branch_refuses r d most n (made - 1) h l s start f old new (ap (finding_faults r d most) (sym e) ∙ g) (ap (λ (fd : Finding). stated_steps fd.row) (sym e) ∙ u)
       (subst (λ (fd : Finding). Refuses r d most start old new (cut_branches n l fd.branches) f) e k))
 
-  pub parts_here : (start : Location) (f : FaultD) (r' : Relations) (first old new : ℕ) (ps : List Part) → (made ≡ 0 → ⊥) → fd ≡ finding_of r d s → finding_faults r d most fd ≡ []
+  pub parts_here : (start : Location) (f : FaultD) (r' : Relations) (first old new : ℕ) (ps : List Part) → (made ≡ 0 → ⊥) → fd ≡ finding_of r d s → finding_faults r d most fd ≡ [] → stated_steps fd.row ≡ []
       → cut_branches n l fd.branches ≡ [] → ps ≡ row_parts fd.row → r' ≡ r → first ≤ old
       → Refuses r' d most start old new (parts_nodes r' d n (made - 1) h l ps) f → Refuses r d most start first new (nodes_at r d n made h l s) f
-  parts_here start f r' first old new ps m e g b p q w k =
+  parts_here start f r' first old new ps m e g u b p q w k =
       refuses_from r d most start (nodes_at r d n made h l s) f first old new w
       (subst (λ (i : ℕ). Refuses r d most start old new (nodes_at r d n i h l s) f) (one_more made m)
-      (parts_refuse r d most n (made - 1) h l s start f old new (ap (finding_faults r d most) (sym e) ∙ g) (ap (λ (fd : Finding). cut_branches n l fd.branches) (sym e) ∙ b)
+      (parts_refuse r d most n (made - 1) h l s start f old new (ap (finding_faults r d most) (sym e) ∙ g) (ap (λ (fd : Finding). stated_steps fd.row) (sym e) ∙ u) (ap (λ (fd : Finding). cut_branches n l fd.branches) (sym e) ∙ b)
       (subst (λ (ps : List Part). Refuses r d most start old new (parts_nodes r d n (made - 1) h l ps) f) (p ∙ ap (λ (fd : Finding). row_parts fd.row) e)
       (subst (λ (r : Relations). Refuses r d most start old new (parts_nodes r d n (made - 1) h l ps) f) q k))))
 
-  pub told_here : (r' : Relations) (j k o : KeptD) (w : Row) (e : Entry) → (made ≡ 0 → ⊥) → fd ≡ finding_of r d s → finding_faults r d most fd ≡ []
+  pub told_here : (r' : Relations) (j k o : KeptD) (w : Row) (e : Entry) → (made ≡ 0 → ⊥) → fd ≡ finding_of r d s → finding_faults r d most fd ≡ [] → stated_steps fd.row ≡ []
       → cut_branches n l fd.branches ≡ [] → k.notes ≡ j.notes ++ placed l fd.notes → k.unread ≡ j.unread → w ≡ fd.row → r' ≡ r → e ≡ entry_at r d n made h s
       → IsToldOf r' d most l w e (parts_nodes r' d n (made - 1) h l (row_parts w)) k o → IsTold r d most (nodes_at r d n made h l s) j o
-  told_here r' j k o w e m g f b a u p q is t =
+  told_here r' j k o w e m g f v b a u p q is t =
       let at : e ≡ entry_at r d n (suc (made - 1)) h s = is ∙ ap (λ i. entry_at r d n i h s) (sym (one_more made m)) in
       subst (λ (i : ℕ). IsTold r d most (nodes_at r d n i h l s) j o) (one_more made m)
-      (told_whole r d most n (made - 1) h l s j k o (ap (finding_faults r d most) (sym g) ∙ f) (ap (λ (fd : Finding). cut_branches n l fd.branches) (sym g) ∙ b)
+      (told_whole r d most n (made - 1) h l s j k o (ap (finding_faults r d most) (sym g) ∙ f) (ap (λ (fd : Finding). stated_steps fd.row) (sym g) ∙ v) (ap (λ (fd : Finding). cut_branches n l fd.branches) (sym g) ∙ b)
       (a ∙ ap (λ (fd : Finding). j.notes ++ placed l fd.notes) g) u
       (subst (λ (e : Entry). IsToldOf r d most l (finding_of r d s).row e (parts_nodes r d n (made - 1) h l (row_parts (finding_of r d s).row)) k o) at
       (subst (λ (w : Row). IsToldOf r d most l w e (parts_nodes r d n (made - 1) h l (row_parts w)) k o) (p ∙ ap (λ (fd : Finding). fd.row) g)

@@ -12,3 +12,4 @@ pub mod Telling
 pub mod Ruled
 pub mod Rows
 pub mod Walked
+pub mod Defaults

@@ -17,6 +17,7 @@ use Rattle.convert_trees.specs.Told as told
 use Rattle.convert_trees.specs.Unread.{first_kept, unread_in_document}
 use Rattle.convert_trees.specs.Keeping.{KeptD}
 use Rattle.convert_trees.specs.Told.{IsTold, Tells, Refuses, by_none, by_fault, RefusesAll, by_want, by_node}
+use Rattle.stated_laws.specs.Stated.{stated_in_document}
 use Rattle.convert_trees.proofs.Here.{refuses_from}
 use Rattle.convert_trees.proofs.Telling.{told_both, refuses_first, refuses_second}
 
@@ -35,7 +36,10 @@ module _ (r : Relations) (d : Document) (most : ℕ) where
   all_told j k l r' e x y = told_both r d most definitions_told (root_tree r d most) j k l x (subst (λ (r : Relations). IsTold r d most (root_tree r d most) k l) e y)
 
   pub is_faultless : (j l : KeptD) → IsTold r d most (document_tree r d most) j l → faults_of r d most ≡ []
-  is_faultless j l t = t.faultless
+  is_faultless j l t = t.fine.faultless
+
+  pub is_unstated : (j l : KeptD) → IsTold r d most (document_tree r d most) j l → stated_in_document r d most ≡ []
+  is_unstated j l t = t.fine.unstated
 
   pub all_notes : (j l : KeptD) → j.notes ≡ [] → IsTold r d most (document_tree r d most) j l → l.notes ≡ notes_in r d (document_tree r d most)
   all_notes j l e t = t.notes ∙ ap (λ ns. ns ++ notes_in r d (document_tree r d most)) e
@@ -58,7 +62,7 @@ module _ (r : Relations) (d : Document) (most : ℕ) where
     pub root_refuses : (r' : Relations) (first : ℕ) (j k : KeptD) → r' ≡ r → first ≤ old → IsTold r d most definitions_told j k → Refuses r' d most [] old new (root_tree r' d most) f
         → RefusesAll r d most first new (document_tree r d most) f
     root_refuses r' first j k e h t w =
-        of_whole (refuses_second r d most [] f first new definitions_told (root_tree r d most) t.faultless
+        of_whole (refuses_second r d most [] f first new definitions_told (root_tree r d most) t.fine
         (refuses_from r d most [] (root_tree r d most) f first old new h (subst (λ (r : Relations). Refuses r d most [] old new (root_tree r d most) f) e w)))
       where
         of_whole : Refuses r d most [] first new (document_tree r d most) f → RefusesAll r d most first new (document_tree r d most) f

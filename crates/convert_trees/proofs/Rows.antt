@@ -20,7 +20,7 @@ had_seen (Some u) had e = e
 pub told_of_row : (r : Relations) (d : Document) (most : ℕ) (l : Location) (row : CodeRow) (e : Entry) (ts : List Node) (j k o : KeptD) (r' : Relations) (had : Bool) → r' ≡ r → had ≡ is_some j.unread
     → IsTold r d most ts j k → o.notes ≡ k.notes → o.unread ≡ first_before_if had (unread_of r' d most l (row_view r' row) e) k.unread → IsToldOf r d most l (row_view r row) e ts j o
 told_of_row r d most l row e ts j k o r' had same h t n u = record {
-  faultless = t.faultless;
+  fine = t.fine;
   notes = n ∙ t.notes;
   unread = u ∙ (λ i. first_before_if had (unread_of (same i) d most l (row_view (same i) row) e) (t.unread i)) ∙ first_of_row j.unread (unread_of r d most l (row_view r row) e) (unread_listed r d most ts) had h;
 }

@@ -14,7 +14,8 @@ use Rattle.convert_trees.specs.Places.{IsWalkTo, TellsDepth, no_memory, walked}
 use Rattle.convert_trees.specs.Unread.{At, unread_of, unread_listed, first_kept, first_before_if}
 use Rattle.convert_trees.specs.Keeping.{KeptD}
 use Rattle.convert_trees.specs.Told as told
-use Rattle.convert_trees.specs.Told.{NoAnswer, RefusesBy, unanswered, by_cause, IsTold, IsToldOf, TellsOf, of_depth, of_cause, Tells, Refuses, by_none, by_fault}
+use Rattle.convert_trees.specs.Told.{NoAnswer, RefusesBy, unanswered, by_cause, IsTold, IsToldOf, TellsOf, of_depth, of_cause, Tells, Refuses, by_none, by_fault, AreFine, TellsStated, out_of_memory, by_default, of_default}
+use Rattle.stated_laws.specs.Stated.{behind, stated_steps, stated_of, stated_in}
 
 -- ---- the first is kept
 
@@ -54,17 +55,29 @@ module _ (r : Relations) (d : Document) (most : ℕ) where
       ap (λ us. unread_of r d most a.place (row_of r d a.schema) a.entry ++ us) (unread_of_both xs bs)
       ∙ sym (append_assoc (unread_of r d most a.place (row_of r d a.schema) a.entry) (unread_listed r d most xs) (unread_listed r d most bs))
 
-  no_fault_of_both : (xs bs : List Node) → faults_in r d most xs ≡ [] → faults_in r d most bs ≡ [] → faults_in r d most (xs ++ bs) ≡ []
-  no_fault_of_both xs bs e h = faults_of_both xs bs ∙ ap (λ cs. cs ++ faults_in r d most bs) e ∙ h
+  stated_of_both : (xs bs : List Node) → stated_in r d (xs ++ bs) ≡ stated_in r d xs ++ stated_in r d bs
+  stated_of_both [] bs = refl
+  stated_of_both (a ∷ xs) bs = ap (λ ls. stated_of r d a ++ ls) (stated_of_both xs bs) ∙ sym (append_assoc (stated_of r d a) (stated_in r d xs) (stated_in r d bs))
+
+  -- ---- nothing to refuse
+
+  none_fine : AreFine r d most []
+  none_fine = record { faultless = refl; unstated = refl }
+
+  both_fine : (xs bs : List Node) → AreFine r d most xs → AreFine r d most bs → AreFine r d most (xs ++ bs)
+  both_fine xs bs x y = record {
+    faultless = faults_of_both xs bs ∙ ap (λ cs. cs ++ faults_in r d most bs) x.faultless ∙ y.faultless;
+    unstated = stated_of_both xs bs ∙ ap (λ ls. ls ++ stated_in r d bs) x.unstated ∙ y.unstated;
+  }
 
   -- ---- told
 
   pub told_none : (k : KeptD) → IsTold r d most [] k k
-  told_none k = record { faultless = refl; notes = sym (append-nil k.notes); unread = sym (first_none k.unread) }
+  told_none k = record { fine = none_fine; notes = sym (append-nil k.notes); unread = sym (first_none k.unread) }
 
   pub told_both : (xs bs : List Node) (k l m : KeptD) → IsTold r d most xs k l → IsTold r d most bs l m → IsTold r d most (xs ++ bs) k m
   told_both xs bs k l m x y = record {
-    faultless = no_fault_of_both xs bs x.faultless y.faultless;
+    fine = both_fine xs bs x.fine y.fine;
     notes = y.notes ∙ ap (λ ns. ns ++ notes_in r d bs) x.notes ∙ append_assoc k.notes (notes_in r d xs) (notes_in r d bs) ∙ ap (λ ns. k.notes ++ ns) (sym (notes_of_both xs bs));
     unread = y.unread ∙ ap (λ o. first_kept o (unread_listed r d most bs)) x.unread ∙ first_both k.unread (unread_listed r d most xs) (unread_listed r d most bs) ∙ ap (first_kept k.unread) (sym (unread_of_both xs bs));
   }
@@ -76,17 +89,17 @@ module _ (r : Relations) (d : Document) (most : ℕ) where
       at = t.at;
       after = t.after ++ bs;
       split = ap (λ ts. ts ++ bs) t.split ∙ append_assoc t.before (t.at ∷ t.after) bs;
-      faultless = t.faultless;
+      fine = t.fine;
       told = t.told;
     }
 
-    tells_second : (xs bs : List Node) → faults_in r d most xs ≡ [] → Tells r d most start bs f → Tells r d most start (xs ++ bs) f
+    tells_second : (xs bs : List Node) → AreFine r d most xs → Tells r d most start bs f → Tells r d most start (xs ++ bs) f
     tells_second xs bs e t = record {
       before = xs ++ t.before;
       at = t.at;
       after = t.after;
       split = ap (λ ts. xs ++ ts) t.split ∙ sym (append_assoc xs t.before (t.at ∷ t.after));
-      faultless = no_fault_of_both xs t.before e t.faultless;
+      fine = both_fine xs t.before e t.fine;
       told = t.told;
     }
 
@@ -95,7 +108,7 @@ module _ (r : Relations) (d : Document) (most : ℕ) where
       refuses_first xs bs (by_none h) = by_none h
       refuses_first xs bs (by_fault t) = by_fault (tells_first xs bs t)
 
-      pub refuses_second : (xs bs : List Node) → faults_in r d most xs ≡ [] → Refuses r d most start old new bs f → Refuses r d most start old new (xs ++ bs) f
+      pub refuses_second : (xs bs : List Node) → AreFine r d most xs → Refuses r d most start old new bs f → Refuses r d most start old new (xs ++ bs) f
       refuses_second xs bs e (by_none h) = by_none h
       refuses_second xs bs e (by_fault t) = by_fault (tells_second xs bs e t)
 
@@ -108,7 +121,7 @@ module _ (r : Relations) (d : Document) (most : ℕ) where
             at = cut_node l s;
             after = [];
             split = refl;
-            faultless = refl;
+            fine = none_fine;
             told = of_depth w refl (subst (λ (n : ℕ). IsWalkTo start n w l) e k) h;
           })
 
@@ -139,7 +152,7 @@ module _ (r : Relations) (d : Document) (most : ℕ) where
       → Passed whole (xs ++ bs) k l → Refuses r d most start old new xs f → Refuses r d most start old new whole f
   passed_refuses start f old new whole xs bs k l p h =
       subst (λ (ts : List Node). Refuses r d most start old new ts f) (sym p.split)
-      (refuses_second start f old new p.done (xs ++ bs) p.told.faultless (refuses_first start f old new xs bs h))
+      (refuses_second start f old new p.done (xs ++ bs) p.told.fine (refuses_first start f old new xs bs h))
 
   -- ---- one schema: itself, branches without a step, and its parts
 
@@ -148,7 +161,7 @@ module _ (r : Relations) (d : Document) (most : ℕ) where
         → Refuses r d most start old new (nodes_at r d n (suc m) h l s) f
     own_refuses start f old new (unanswered k) = by_none k
     own_refuses start f old new (by_cause c cs e k) =
-        by_fault (record { before = []; at = _; after = _; split = refl; faultless = refl; told = of_cause c cs refl e k })
+        by_fault (record { before = []; at = _; after = _; split = refl; fine = none_fine; told = of_cause c cs refl e k })
 
     abbrev own_node : List Node
     own_node = record { place = l; schema = s; entry = entry_at r d n (suc m) h s; is_deep = false } ∷ []
@@ -159,24 +172,34 @@ module _ (r : Relations) (d : Document) (most : ℕ) where
     abbrev part_list : List Node
     part_list = parts_nodes r d n m h l (row_parts (row_of r d s))
 
-    own_faultless : finding_faults r d most (finding_of r d s) ≡ [] → faults_in r d most own_node ≡ []
-    own_faultless e = ap (λ cs. faults.placed r d most l cs ++ []) e
+    -- its own default, where it has no fault itself
+    pub stated_refuses : (start : Location) (f : FaultD) (old new : ℕ) → finding_faults r d most (finding_of r d s) ≡ [] → TellsStated l (stated_steps (row_of r d s)) f
+        → Refuses r d most start old new (nodes_at r d n (suc m) h l s) f
+    stated_refuses start f old new e (out_of_memory k) = by_none (told.no_memory k)
+    stated_refuses start f old new e (by_default k more g w) =
+        by_fault (record { before = []; at = _; after = _; split = refl; fine = none_fine; told = of_default (l ++ k) (behind l more) refl e (ap (behind l) g) w })
 
-    pub branch_refuses : (start : Location) (f : FaultD) (old new : ℕ) → finding_faults r d most (finding_of r d s) ≡ []
+    own_fine : finding_faults r d most (finding_of r d s) ≡ [] → stated_steps (row_of r d s) ≡ [] → AreFine r d most own_node
+    own_fine e g = record { faultless = ap (λ cs. faults.placed r d most l cs ++ []) e; unstated = ap (λ ks. behind l ks ++ []) g }
+
+    branches_fine : branch_nodes ≡ [] → AreFine r d most branch_nodes
+    branches_fine b = subst (AreFine r d most) (sym b) none_fine
+
+    pub branch_refuses : (start : Location) (f : FaultD) (old new : ℕ) → finding_faults r d most (finding_of r d s) ≡ [] → stated_steps (row_of r d s) ≡ []
         → Refuses r d most start old new branch_nodes f → Refuses r d most start old new (nodes_at r d n (suc m) h l s) f
-    branch_refuses start f old new e k =
-        refuses_second start f old new own_node (branch_nodes ++ part_list) (own_faultless e) (refuses_first start f old new branch_nodes part_list k)
+    branch_refuses start f old new e g k =
+        refuses_second start f old new own_node (branch_nodes ++ part_list) (own_fine e g) (refuses_first start f old new branch_nodes part_list k)
 
-    pub parts_refuse : (start : Location) (f : FaultD) (old new : ℕ) → finding_faults r d most (finding_of r d s) ≡ [] → branch_nodes ≡ []
+    pub parts_refuse : (start : Location) (f : FaultD) (old new : ℕ) → finding_faults r d most (finding_of r d s) ≡ [] → stated_steps (row_of r d s) ≡ [] → branch_nodes ≡ []
         → Refuses r d most start old new part_list f → Refuses r d most start old new (nodes_at r d n (suc m) h l s) f
-    parts_refuse start f old new e b k =
-        refuses_second start f old new own_node (branch_nodes ++ part_list) (own_faultless e)
-        (refuses_second start f old new branch_nodes part_list (ap (faults_in r d most) b) k)
+    parts_refuse start f old new e g b k =
+        refuses_second start f old new own_node (branch_nodes ++ part_list) (own_fine e g)
+        (refuses_second start f old new branch_nodes part_list (branches_fine b) k)
 
-    pub told_whole : (j k o : KeptD) → finding_faults r d most (finding_of r d s) ≡ [] → branch_nodes ≡ [] → k.notes ≡ j.notes ++ placed l (notes_at r d s) → k.unread ≡ j.unread
+    pub told_whole : (j k o : KeptD) → finding_faults r d most (finding_of r d s) ≡ [] → stated_steps (row_of r d s) ≡ [] → branch_nodes ≡ [] → k.notes ≡ j.notes ++ placed l (notes_at r d s) → k.unread ≡ j.unread
         → IsToldOf r d most l (row_of r d s) (entry_at r d n (suc m) h s) part_list k o → IsTold r d most (nodes_at r d n (suc m) h l s) j o
-    told_whole j k o e b g u t = record {
-      faultless = no_fault_of_both own_node (branch_nodes ++ part_list) (own_faultless e) (ap (λ ts. faults_in r d most (ts ++ part_list)) b ∙ t.faultless);
+    told_whole j k o e w b g u t = record {
+      fine = both_fine own_node (branch_nodes ++ part_list) (own_fine e w) (both_fine branch_nodes part_list (branches_fine b) t.fine);
       notes = t.notes ∙ ap (λ ns. ns ++ notes_in r d part_list) g ∙ append_assoc j.notes (placed l (notes_at r d s)) (notes_in r d part_list)
           ∙ ap (λ ts. j.notes ++ (placed l (notes_at r d s) ++ notes_in r d (ts ++ part_list))) (sym b);
       unread = t.unread ∙ ap (λ o. first_kept o (unread_of r d most l (row_of r d s) (entry_at r d n (suc m) h s) ++ unread_listed r d most part_list)) u

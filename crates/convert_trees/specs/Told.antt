@@ -21,6 +21,7 @@ use Rattle.schema_tree.specs.Fault.{FaultD, memory, depth, places, bad_value, in
 use Rattle.convert_trees.specs.Places.{IsWalkTo}
 use Rattle.convert_trees.specs.Unread.{first_kept, unread_of, unread_listed}
 use Rattle.convert_trees.specs.Keeping.{KeptD}
+use Rattle.stated_laws.specs.Stated.{stated_of, stated_in}
 
 -- ---- the fault that is told for a cause
 
@@ -93,25 +94,37 @@ pub data RowRefuses (l : Location) (s : Schema) (w : Row) (told : FaultD) : Type
   by_refusal : (c : CodeCause) → w ≡ refused_row (cause_view c) → told ≡ told_cause l s (plainly (refused_row (cause_view c))) (cause_view c) → RowRefuses l s w told
   by_merge : (ps : List Part) → w ≡ merged_row ps → told ≡ unsupported l kind.NotYet → RowRefuses l s w told
 
+-- want of memory, or that the default of the first field that states one isn't checked yet
+pub data TellsStated (l : Location) (ks : List Location) (told : FaultD) : Type 0 where
+  out_of_memory : told ≡ memory → TellsStated l ks told
+  by_default : (k : Location) (more : List Location) → ks ≡ k ∷ more → told ≡ unsupported (l ++ k) kind.NotYet → TellsStated l ks told
+
 -- ---- nodes
 
--- no fault, the notes, and the first listed value that isn't read
-pub record IsTold (r : Relations) (d : Document) (most : ℕ) (ts : List Node) (old new : KeptD) : Type 0 where
+-- neither a fault nor a stated default
+pub record AreFine (r : Relations) (d : Document) (most : ℕ) (ts : List Node) : Type 0 where
   pub faultless : faults_in r d most ts ≡ []
+  pub unstated : stated_in r d ts ≡ []
+
+-- nothing to refuse, the notes, and the first listed value that isn't read
+pub record IsTold (r : Relations) (d : Document) (most : ℕ) (ts : List Node) (old new : KeptD) : Type 0 where
+  pub fine : AreFine r d most ts
   pub notes : new.notes ≡ old.notes ++ notes_in r d ts
   pub unread : new.unread ≡ first_kept old.unread (unread_listed r d most ts)
 
 -- the same of the parts of a schema, with the values that its own row lists
 pub record IsToldOf (r : Relations) (d : Document) (most : ℕ) (l : Location) (w : Row) (e : Entry) (ts : List Node) (old new : KeptD) : Type 0 where
-  pub faultless : faults_in r d most ts ≡ []
+  pub fine : AreFine r d most ts
   pub notes : new.notes ≡ old.notes ++ notes_in r d ts
   pub unread : new.unread ≡ first_kept old.unread (unread_of r d most l w e ++ unread_listed r d most ts)
 
--- the first fault of a schema of the tree
+-- the first fault of a schema of the tree, or its first stated default, which isn't checked yet
 pub data TellsOf (r : Relations) (d : Document) (most : ℕ) (start : Location) (t : Node) (f : FaultD) : Type 0 where
   of_depth : (walk : List Location) → t.is_deep ≡ true → IsWalkTo start (most + 1) walk t.place → f ≡ depth walk → TellsOf r d most start t f
   of_cause : (c : Cause) (cs : List Cause) → t.is_deep ≡ false → finding_faults r d most (finding_of r d t.schema) ≡ c ∷ cs
       → f ≡ told_cause t.place t.schema (finding_of r d t.schema) c → TellsOf r d most start t f
+  of_default : (l : Location) (more : List Location) → t.is_deep ≡ false → finding_faults r d most (finding_of r d t.schema) ≡ [] → stated_of r d t ≡ l ∷ more
+      → f ≡ unsupported l kind.NotYet → TellsOf r d most start t f
 
 -- the first fault of all
 pub record Tells (r : Relations) (d : Document) (most : ℕ) (start : Location) (ts : List Node) (f : FaultD) : Type 0 where
@@ -119,7 +132,7 @@ pub record Tells (r : Relations) (d : Document) (most : ℕ) (start : Location) 
   pub at : Node
   pub after : List Node
   pub split : ts ≡ before ++ at ∷ after
-  pub faultless : faults_in r d most before ≡ []
+  pub fine : AreFine r d most before
   pub told : TellsOf r d most start at f
 
 -- no answer, or the first fault

@@ -18,6 +18,7 @@ ghost use Rattle.convert_trees.specs.Places.{place_at, step_count, trail_count, 
 ghost use Rattle.convert_trees.specs.Keeping.{kept_view};
 ghost use Rattle.convert_trees.specs.Told.{IsTold, IsToldOf, NoAnswer, Refuses};
 ghost use Rattle.convert_trees.specs.Unread.{first_before_if, unread_of};
+ghost use Rattle.stated_laws.specs.Stated.{stated_steps};
 
 use crate::faults::{text_fault, too_deep};
 use crate::keeping::Kept;
@@ -27,6 +28,7 @@ use crate::notes::push_notes;
 use crate::own::check_own;
 use crate::places::{count_of, longer};
 use crate::scope::Scope;
+use crate::stated::check_stated;
 use crate::unread::keep_unless;
 use entry_trees::Tree;
 use row_trees::row_tree;
@@ -100,6 +102,25 @@ fn keep_notes<'d>(
     }
 }
 
+// The notes are added, where each branch is within the steps that are left.
+fn noted<'d>(
+    scope: &Scope<'d, '_>,
+    kept: &mut Kept<'d>,
+    trail: &Vec<Steps<'d>>,
+    left: u32,
+    finding: &Finding<'d>,
+) -> Result<(), Fault>
+    requires { trail_count trail.now.items + left ≡ scope.now.depth }
+    ensures branches { OnOk result (cut_branches left (place_at scope.now.start.now trail.now.items) (map branch_view finding.now.branches.items) ≡ []) }
+    ensures notes { OnOk result ((kept_view kept.new).notes ≡ (kept_view kept.old).notes ++ placed (place_at scope.now.start.now trail.now.items) (map note_view finding.now.notes.items)) }
+    ensures unread { OnOk result ((kept_view kept.new).unread ≡ (kept_view kept.old).unread) }
+    ensures refused { IfErr result (λ f. (r : Relations) (d : DocumentOf) (old : ℕ) (new : ℕ) → Refuses r d scope.now.depth scope.now.start.now old new (cut_branches left (place_at scope.now.start.now trail.now.items) (map branch_view finding.now.branches.items)) (fault_view f)) }
+{
+    keep_notes(scope, trail, finding, kept)?;
+    check_branches(scope, trail, left, &finding.branches)?;
+    Ok(())
+}
+
 fn tree_of_row<'d, T: Texts>(
     scope: &Scope<'d, '_>,
     trail: &Vec<Steps<'d>>,
@@ -152,7 +173,8 @@ fn push_tree<'d>(trees: &mut VecDeque<Tree<'d>>, tree: Tree<'d>) -> Result<(), F
     }
 }
 
-// What is found of the schema, where it has no fault itself and each branch is within the steps that are left; its notes are added.
+// What is found of the schema, where it has no fault itself, states no default, and each branch is within the steps that are left; its
+// notes are added.
 fn checked<'d, T: Texts>(
     scope: &Scope<'d, '_>,
     texts: &mut T,
@@ -164,6 +186,7 @@ fn checked<'d, T: Texts>(
     requires { trail_count trail.now.items + left ≡ scope.now.depth }
     ensures finding { IfOk result (λ f. (r : Relations) → finding_view r f ≡ finding_of r (document_seen scope.now.document.now) (source_view source.now)) }
     ensures fine { IfOk result (λ f. (d : DocumentOf) → finding_faults (T.relations texts.old) d scope.now.depth (finding_view (T.relations texts.old) f) ≡ []) }
+    ensures unstated { IfOk result (λ f. stated_steps (finding_view (T.relations texts.old) f).row ≡ []) }
     ensures branches { IfOk result (λ f. cut_branches left (place_at scope.now.start.now trail.now.items) (finding_view (T.relations texts.old) f).branches ≡ []) }
     ensures notes { IfOk result (λ f. (kept_view kept.new).notes ≡ (kept_view kept.old).notes ++ placed (place_at scope.now.start.now trail.now.items) (finding_view (T.relations texts.old) f).notes) }
     ensures unread { OnOk result ((kept_view kept.new).unread ≡ (kept_view kept.old).unread) }
@@ -173,8 +196,8 @@ fn checked<'d, T: Texts>(
 {
     let finding = found(scope, source)?;
     check_own(scope, trail, source, &finding, texts)?;
-    keep_notes(scope, trail, &finding, kept)?;
-    check_branches(scope, trail, left, &finding.branches)?;
+    check_stated(scope, trail, &finding.row)?;
+    noted(scope, kept, trail, left, &finding)?;
     Ok(finding)
 }
 

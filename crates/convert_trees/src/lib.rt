@@ -10,9 +10,11 @@ mod notes;
 mod own;
 mod places;
 mod scope;
+mod stated;
 mod table;
 mod unread;
 
-pub use keeping::Unread;
+pub use keeping::{Kept, Unread};
+pub use names::root_name;
 pub use note_order::PlacedNote;
-pub use table::{Converted, table_of};
+pub use table::{Converted, definition_targets, table_of, tree_at};

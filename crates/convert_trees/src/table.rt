@@ -14,6 +14,7 @@ ghost use Rattle.convert_trees.specs.Keeping.{kept_view, unread_view};
 ghost use Rattle.convert_trees.specs.Tables.{is_under_defs, root_targets_of, root_use_of};
 ghost use Rattle.convert_trees.specs.Told.{IsTold, Refuses, RefusesAll};
 ghost use Rattle.convert_trees.specs.Unread.{first_kept, unread_in_document};
+ghost use Rattle.stated_laws.specs.Stated.{stated_in_document};
 
 use crate::convert::{MOST_MADE, convert};
 use crate::keeping::{Kept, Unread};
@@ -36,7 +37,8 @@ pub struct Converted<'d> {
     pub unread: Option<Unread<'d>>,
 }
 
-/// The table of a document, where walks may have so many steps, and lists as many places.
+/// The table of a document, where walks may have so many steps, and lists as many places. Refused is the first fault in the order of
+/// conversion, or the first optional property that states a default, which isn't checked yet.
 pub fn table_of<'d, T: Texts>(
     alloc: Global,
     document: &'d Document,
@@ -45,6 +47,7 @@ pub fn table_of<'d, T: Texts>(
 ) -> Result<Converted<'d>, Fault>
     ensures table { IfOk result (λ c. table_view c.table ≡ table_of_document (T.relations texts.old) (document_seen document.now) depth) }
     ensures faultless { OnOk result (faults_of (T.relations texts.old) (document_seen document.now) depth ≡ []) }
+    ensures stated { OnOk result (stated_in_document (T.relations texts.old) (document_seen document.now) depth ≡ []) }
     ensures notes { IfOk result (λ c. notes_view c.notes.items ≡ notes_in (T.relations texts.old) (document_seen document.now) (document_tree (T.relations texts.old) (document_seen document.now) depth)) }
     ensures unread { IfOk result (λ c. option_map unread_view c.unread ≡ first_kept None (unread_in_document (T.relations texts.old) (document_seen document.now) depth)) }
     ensures refused { IfErr result (λ f. RefusesAll (T.relations texts.old) (document_seen document.now) depth (T.faults texts.old) (T.faults texts.new) (document_tree (T.relations texts.old) (document_seen document.now) depth) (fault_view f)) }
@@ -109,6 +112,37 @@ fn item_of<'d>(alloc: Global, name: &'d str, tree: Tree<'d>) -> Result<Tree<'d>,
     }
 }
 
+/// What the schema at a place is converted to, with the name that is handed down to it, where walks from there may have so many steps. What
+/// isn't kept in the tree is added to what was kept. It fails with the first fault from there on, or where memory runs out or the judge of
+/// texts failed.
+pub fn tree_at<'d, T: Texts>(
+    alloc: Global,
+    document: &'d Document,
+    depth: u32,
+    texts: &mut T,
+    kept: &mut Kept<'d>,
+    start: &Location,
+    name: Option<&'d str>,
+    schema: &'d Schema,
+) -> Result<Tree<'d>, Fault>
+    ensures entry { IfOk result (λ t. tree_view t ≡ raw_entry (T.relations texts.old) (document_seen document.now) (suc depth) (option_map (λ n. n.now) name.entry) (schema_view schema.now)) }
+    ensures told { OnOk result (IsTold (T.relations texts.old) (document_seen document.now) depth (tree_of (T.relations texts.old) (document_seen document.now) (suc depth) (option_map (λ n. n.now) name.entry) start.now (schema_view schema.now)) (kept_view kept.old) (kept_view kept.new)) }
+    ensures refused { IfErr result (λ f. Refuses (T.relations texts.old) (document_seen document.now) depth start.now (T.faults texts.old) (T.faults texts.new) (tree_of (T.relations texts.old) (document_seen document.now) (suc depth) (option_map (λ n. n.now) name.entry) start.now (schema_view schema.now)) (fault_view f)) }
+    ensures keeps { T.relations texts.new ≡ T.relations texts.old }
+    ensures counts { T.faults texts.old ≤ T.faults texts.new }
+{
+    let scope = Scope {
+        alloc,
+        document,
+        depth,
+        start,
+    };
+    let trail = Vec::new(alloc);
+    let source = Source::Written(schema);
+    let tree = convert(&scope, texts, kept, &trail, depth, MOST_MADE, name, &source)?;
+    Ok(tree)
+}
+
 fn definition_item<'d, T: Texts>(
     alloc: Global,
     document: &'d Document,
@@ -125,29 +159,22 @@ fn definition_item<'d, T: Texts>(
     ensures counts { T.faults texts.old ≤ T.faults texts.new }
 {
     let start = definition_start(alloc, document, name)?;
-    let scope = Scope {
+    let tree = tree_at(
         alloc,
         document,
         depth,
-        start: &start,
-    };
-    let trail = Vec::new(alloc);
-    let source = Source::Written(schema);
-    let tree = convert(
-        &scope,
         texts,
         kept,
-        &trail,
-        depth,
-        MOST_MADE,
+        &start,
         Some(name),
-        &source,
+        schema,
     )?;
     let item = item_of(alloc, name, tree)?;
     Ok(item)
 }
 
-fn definition_targets<'d, T: Texts>(
+/// The item of each definition in the order of their names, with what isn't kept in them added to what was kept.
+pub fn definition_targets<'d, T: Texts>(
     alloc: Global,
     document: &'d Document,
     depth: u32,
@@ -213,25 +240,17 @@ fn root_tree<'d, T: Texts>(
     ensures counts { T.faults texts.old ≤ T.faults texts.new }
 {
     let start = Location::root(alloc);
-    let scope = Scope {
+    let schema = document.root();
+    let name = root_name(schema);
+    let tree = tree_at(
         alloc,
         document,
         depth,
-        start: &start,
-    };
-    let trail = Vec::new(alloc);
-    let schema = document.root();
-    let source = Source::Written(schema);
-    let name = root_name(schema);
-    let tree = convert(
-        &scope,
         texts,
         kept,
-        &trail,
-        depth,
-        MOST_MADE,
+        &start,
         Some(name),
-        &source,
+        schema,
     )?;
     Ok(tree)
 }

@@ -48,7 +48,7 @@ convert-returns-clause-told g t c =
     let row = c.in_ok-finding.finding.row in
     told_here r d c.args.scope.now.depth c.args.left c.args.made h (place_at c.args.scope.now.start.now c.args.trail.now.items) s (finding_view r c.in_ok-finding.finding) r'
     (kept_view c.args.kept.now) (kept_view c.checked.new.kept) (kept_view c.convert_found.new.kept) (row_view r' row) (tree_view c.in_ok-tree.tree)
-    (λ k. absurd (omega (arith, k, c.if-made-eq0.false))) (c.in_ok-finding.ensures.finding r) (c.in_ok-finding.ensures.fine d) c.in_ok-finding.ensures.branches
+    (λ k. absurd (omega (arith, k, c.if-made-eq0.false))) (c.in_ok-finding.ensures.finding r) (c.in_ok-finding.ensures.fine d) c.in_ok-finding.ensures.unstated c.in_ok-finding.ensures.branches
     c.in_ok-finding.ensures.notes c.in_ok-finding.ensures.unread
     (ap (λ (r : Relations). row_view r row) c.in_ok-finding.ensures.keeps)
     c.in_ok-finding.ensures.keeps (convert-returns-clause-entry g t c) c.in_ok-tree.ensures.told
@@ -70,7 +70,7 @@ convert-returns-in_err-tree-clause-refused g t c =
     if_err c.from_residual-in_err-tree.result c.in_err-tree.field-0.0 _ c.from_residual-in_err-tree.ensures.1
     (parts_here r d c.args.scope.now.depth c.args.left c.args.made (option_map (λ n. n.now) c.args.handed) (place_at c.args.scope.now.start.now c.args.trail.now.items) (source_view c.args.source.now) (finding_view r c.in_ok-finding.finding)
     c.args.scope.now.start.now _ r' _ _ _ (row_parts (row_view r' row)) (λ k. absurd (omega (arith, k, c.if-made-eq0.false))) (c.in_ok-finding.ensures.finding r) (c.in_ok-finding.ensures.fine d)
-    c.in_ok-finding.ensures.branches (ap (λ (r : Relations). row_parts (row_view r row)) c.in_ok-finding.ensures.keeps) c.in_ok-finding.ensures.keeps c.in_ok-finding.ensures.counts c.in_err-tree.ensures.refused)
+    c.in_ok-finding.ensures.unstated c.in_ok-finding.ensures.branches (ap (λ (r : Relations). row_parts (row_view r row)) c.in_ok-finding.ensures.keeps) c.in_ok-finding.ensures.keeps c.in_ok-finding.ensures.counts c.in_err-tree.ensures.refused)
 
 -- ---- what was found
 

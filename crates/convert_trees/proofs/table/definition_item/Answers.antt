@@ -6,7 +6,7 @@ use Rattle.schema_tree.specs.Document.{view as document_seen}
 use Rattle.convert_defs.specs.Convert.{tree}
 use Rattle.convert_trees.specs.Tables.{is_under_defs}
 use Rattle.convert_trees.proofs.Here.{if_err, want_refuses, told_moved, refuses_moved}
-use Rattle.convert_trees.proofs.Roots.{begun, refuses_started}
+use Rattle.convert_trees.proofs.Roots.{refuses_started}
 use Rattle.convert_trees.proofs.table.definition_item.Goals as goal
 
 pub returns-clause-told : goal.returns-clause-told
@@ -17,7 +17,7 @@ returns-clause-told g c =
     let n = c.args.name.now in
     let s = schema_view c.args.schema.now in
     let at = definition_word (is_under_defs d n) ∷ n ∷ [] in
-    told_moved r d most (λ l. tree r d (suc most) (Some n) l s) at _ _ _ (begun c.in_ok-start.start at c.new-trail.result.items c.new-trail.ensures.items c.in_ok-start.ensures.place) c.in_ok-tree.ensures.told
+    told_moved r d most (λ l. tree r d (suc most) (Some n) l s) at _ _ _ c.in_ok-start.ensures.place c.in_ok-tree.ensures.told
 
 pub returns-in_err-start-clause-refused : goal.returns-in_err-start-clause-refused
 returns-in_err-start-clause-refused g c =
@@ -33,7 +33,7 @@ returns-in_err-tree-clause-refused g c =
     let s = schema_view c.args.schema.now in
     let at = definition_word (is_under_defs d n) ∷ n ∷ [] in
     if_err c.from_residual-in_err-tree.result c.in_err-tree.field-0.0 _ c.from_residual-in_err-tree.ensures.1
-    (refuses_moved r d most (λ l. tree r d (suc most) (Some n) l s) at _ at _ _ _ (begun c.in_ok-start.start at c.new-trail.result.items c.new-trail.ensures.items c.in_ok-start.ensures.place) (refuses_started r d most _ _ at _ _ _ c.in_ok-start.ensures.place c.in_err-tree.ensures.refused))
+    (refuses_moved r d most (λ l. tree r d (suc most) (Some n) l s) at _ at _ _ _ c.in_ok-start.ensures.place (refuses_started r d most _ _ at _ _ _ c.in_ok-start.ensures.place c.in_err-tree.ensures.refused))
 
 pub returns-in_err-item-clause-refused : goal.returns-in_err-item-clause-refused
 returns-in_err-item-clause-refused g c =

@@ -2,7 +2,7 @@ use Rattle.std.proofs.Common.{map, rules}
 use Rattle.schema_tree.specs.Document.{view as document_seen}
 use Rattle.entry_trees.specs.View.{table_view, target_entry, tree_view}
 use Rattle.convert_trees.proofs.Here.{if_err}
-use Rattle.convert_trees.proofs.Roots.{all_told, is_faultless, all_notes, all_unread, definitions_refuse, root_refuses, want_all, whole_table}
+use Rattle.convert_trees.proofs.Roots.{all_told, is_faultless, is_unstated, all_notes, all_unread, definitions_refuse, root_refuses, want_all, whole_table}
 use Rattle.convert_trees.proofs.table.table_of.Goals as goal
 
 pub returns-clause-table : goal.returns-clause-table
@@ -19,6 +19,13 @@ returns-clause-faultless g c =
     let d = document_seen c.args.document.now in
     let most = c.args.depth in
     is_faultless r d most _ _ (all_told r d most _ _ _ (g.T.Texts.relations c.definition_targets.new.texts) c.in_ok-targets.ensures.keeps c.in_ok-targets.ensures.told c.in_ok-root.ensures.told)
+
+pub returns-clause-stated : goal.returns-clause-stated
+returns-clause-stated g c =
+    let r = g.T.Texts.relations c.args.texts.now in
+    let d = document_seen c.args.document.now in
+    let most = c.args.depth in
+    is_unstated r d most _ _ (all_told r d most _ _ _ (g.T.Texts.relations c.definition_targets.new.texts) c.in_ok-targets.ensures.keeps c.in_ok-targets.ensures.told c.in_ok-root.ensures.told)
 
 pub returns-clause-notes : goal.returns-clause-notes
 returns-clause-notes g c =
