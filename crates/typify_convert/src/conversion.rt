@@ -1,9 +1,7 @@
 //! A document converted.
-ghost use Rattle.std.specs.Prelude.{◌≡◌, ◌≤◌, [], true, false, IfOk, IfErr, OnOk, OnErr, map};
-ghost use Rattle.schema_tree.specs.Conversions.{conversions_view};
+ghost use Rattle.std.specs.Prelude.{◌≡◌, ◌≤◌, [], IfOk, IfErr, OnOk, map};
 ghost use Rattle.schema_tree.specs.Document.{view as document_seen};
-ghost use Rattle.schema_tree.specs.Fault.{fault_view, unsupported as unsupported_at};
-ghost use Rattle.schema_tree.specs.declared.fault.UnsupportedKind.TheVariants.{NotYet};
+ghost use Rattle.schema_tree.specs.Fault.{fault_view};
 ghost use Rattle.entry_defs.specs.Sound.{IsSound};
 ghost use Rattle.entry_defs.specs.Table.{root_of};
 ghost use Rattle.naming_defs.specs.Names.{named_table as named_table_of};
@@ -14,25 +12,26 @@ ghost use Rattle.convert_defs.specs.Faults.{faults_of};
 ghost use Rattle.convert_defs.specs.Order.{ordered};
 ghost use Rattle.document_laws.specs.Laws.{WasRead};
 ghost use Rattle.convert_trees.specs.Unread.{unread_in_document};
+ghost use Rattle.stated_laws.specs.Stated.{stated_in_document};
 ghost use Rattle.entry_trees.specs.View.{table_view};
 ghost use Rattle.note_order.specs.Notes.{notes_view};
 ghost use Rattle.space_trees.specs.Formed.{IsFormed};
 ghost use Rattle.typify_convert.specs.Note.{note_of};
 ghost use Rattle.typify_convert.specs.Emitted.{emission_of, emitted_view};
-ghost use Rattle.typify_convert.specs.Stated.{states_no_default as states_no_default_of};
 ghost use Rattle.typify_convert.specs.Refused.{IsRefusal};
 
-use crate::checking::{check_read, states_no_default};
+use crate::checking::check_read;
 use crate::note::Note;
 use crate::noting::notes_of;
 use convert_trees::table_of;
 use document_laws::laws::read_documents_are_planned;
 use entry_trees::TreeTable;
 use note_order::{PlacedNote, ordered_notes};
-use schema_tree::{Conversions, Document, Fault, Location, Texts, UnsupportedKind};
+use schema_tree::{Conversions, Document, Fault, Texts};
 use space_emission::emit;
 use space_trees::laws::plans_are_formed;
 use space_trees::space_of;
+use stated_laws::laws::unstated_documents;
 use std::alloc::{AllocError, Global};
 use syntax_trees::{DeriveInput, Ty};
 use tree_names::named_table;
@@ -72,37 +71,13 @@ fn from_table(
     })
 }
 
-// What isn't built yet is told at the root.
-fn unsupported(alloc: Global) -> Fault
-    ensures { fault_view result ≡ unsupported_at [] NotYet }
-{
-    Fault::Unsupported {
-        path: Location::root(alloc),
-        kind: UnsupportedKind::NotYet,
-    }
-}
-
-// Defaults that are stated aren't checked yet, so where some are, nothing is emitted.
-fn checked(alloc: Global, emitted: Emitted) -> Result<Emitted, Fault>
-    ensures same { IfOk result (λ e. e ≡ emitted) }
-    ensures none { OnOk result (states_no_default_of (conversions_view emitted.table) ≡ true) }
-    ensures told { IfErr result (λ f. fault_view f ≡ unsupported_at [] NotYet) }
-    ensures some { OnErr result (states_no_default_of (conversions_view emitted.table) ≡ false) }
-{
-    if states_no_default(&emitted.table) {
-        Ok(emitted)
-    } else {
-        Err(unsupported(alloc))
-    }
-}
-
 /// The items that stand for a document, by the table of rows: each schema is converted by the first row that fits, what references
 /// lead to has an item, and names are given where wanted ones can't be had. `depth` bounds the steps from a definition or the root to
 /// a schema of it, and the places of a list that is shorter than its sizes. Notes say where the items don't take exactly what is admitted.
 /// Refused is the first fault in the order of conversion: the definitions by name, then the root, each schema before its
-/// parts. Then the first listed value, in the same order, that the type of its schema's other keywords doesn't read (`InvalidValue`); then
-/// a document that states a default at an optional property is told as `Unsupported` of kind `NotYet` at the root.
-/// `Texts` comes where the judge of texts failed, `Memory` where memory runs out.
+/// parts. Where a schema has no fault itself, but an optional property of it states a default, the first of them is told at its place as
+/// `Unsupported` of kind `NotYet`. Then the first listed value, in the same order, that the type of its schema's other keywords doesn't read
+/// (`InvalidValue`). `Texts` comes where the judge of texts failed, `Memory` where memory runs out.
 #[tactic(auto, using(crate::proofs::Firsts::refused_all, crate::proofs::Firsts::without_memory))]
 pub fn converted<T: Texts>(
     alloc: Global,
@@ -115,21 +90,20 @@ pub fn converted<T: Texts>(
     ensures notes { IfOk result (λ e. e.notes.items ≡ map note_of (notes_of (T.relations texts.old) (document_seen document.now) depth)) }
     ensures faultless { OnOk result (faults_of (T.relations texts.old) (document_seen document.now) depth ≡ []) }
     ensures read { OnOk result (unread_in_document (T.relations texts.old) (document_seen document.now) depth ≡ []) }
-    ensures built { OnOk result (states_no_default_of (emission_of (T.relations texts.old) (document_seen document.now) depth).conversions ≡ true) }
+    ensures unstated { OnOk result (stated_in_document (T.relations texts.old) (document_seen document.now) depth ≡ []) }
+    ensures built { OnOk result ((emission_of (T.relations texts.old) (document_seen document.now) depth).conversions.defaults ≡ []) }
     ensures refused { IfErr result (λ f. IsRefusal (T.relations texts.old) (document_seen document.now) depth (T.faults texts.old) (T.faults texts.new) (fault_view f)) }
     ensures keeps { T.relations texts.new ≡ T.relations texts.old }
     ensures counts { T.faults texts.old ≤ T.faults texts.new }
 {
     read_documents_are_planned();
     plans_are_formed();
+    unstated_documents();
     let converted = table_of(alloc, document, depth, texts)?;
     check_read(converted.unread)?;
     let notes = converted.notes;
     match from_table(alloc, &converted.table, notes) {
-        Ok(emitted) => {
-            let kept = checked(alloc, emitted)?;
-            Ok(kept)
-        }
+        Ok(emitted) => Ok(emitted),
         Err(_) => Err(Fault::Memory),
     }
 }

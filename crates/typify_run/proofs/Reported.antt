@@ -32,11 +32,11 @@ use Rattle.document_defs.proofs.Composed.{documents_mean_items}
 use Rattle.derive_model.specs.VerdictView.{verdict_view}
 use Rattle.typify_convert.specs.Note.{way_of, note_of}
 use Rattle.typify_convert.specs.Emitted.{emission_of}
-use Rattle.typify_convert.specs.Stated.{is_none_of, states_no_default}
+use Rattle.stated_laws.proofs.Converted.{unstated_documents}
 use Rattle.typify_run.specs.Headline as headline
 use Rattle.typify_run.specs.Headline.{Deriving, read_of, items_of, HasNone, IsNarrowed, IsWidened, report_reads, document_admits, IsReportOf}
 use Rattle.typify_run.specs.Page.{ArePrintable}
-use Rattle.typify_run.specs.Examine.{as_it_stands, IsMadeOf}
+use Rattle.typify_run.specs.Examine.{as_it_stands, is_none_of, IsMadeOf}
 use Rattle.typify_run.specs.declared.report.Report.{Report}
 use Rattle.typify_run.proofs.Judged.{judged_alike, printable}
 
@@ -137,13 +137,9 @@ module _ (r : Relations) (d : Document) (depth : ℕ) (values : List Data) (repo
   undefaulted : (conversions_view report.conversions).defaults ≡ []
   undefaulted =
       ap (λ (k : Emission). k.conversions.defaults) h.emission
-      ∙ none_listed emitted.conversions.defaults h.unstated
+      ∙ unstated_documents r d depth (root_of plan) h.unstated
 
   pub all_printable : are_i64 values ≡ true → ArePrintable (map verdict_view report.verdicts.items)
   all_printable i =
       printable (read_of as_it_stands (items_of report)) (conversions_view report.conversions) r (headline.root_of report) values (map verdict_view report.verdicts.items)
       ends (ap (list_all has_json_numbers) undefaulted) i h.verdicts
-
--- stated defaults are none
-pub none_stated : (k : Emission) → states_no_default k.conversions ≡ true → k.conversions.defaults ≡ []
-none_stated k h = none_listed k.conversions.defaults h

@@ -1,5 +1,5 @@
 -- What is examined, why a schema and values are refused, and what a report is made of.
-use Rattle.std.specs.Prelude.{◌≡◌, ◌&&◌, ◌⊎◌, ℕ, List, [], map, Bool, true, false, Option, Some, None}
+use Rattle.std.specs.Prelude.{◌≡◌, ◌&&◌, ◌⊎◌, ℕ, List, [], ◌∷◌, map, Bool, true, false, Option, Some, None}
 use Rattle.run_io.specs.Bytes.{Rises}
 use Rattle.serde_json.specs.Data.{Data}
 use Rattle.json_value.specs.Value.{Value}
@@ -16,7 +16,7 @@ use Rattle.convert_defs.specs.Faults.{faults_of}
 use Rattle.typify_convert.specs.Note.{note_of}
 use Rattle.typify_convert.specs.Emitted.{emission_of}
 use Rattle.convert_trees.specs.Unread.{unread_in_document}
-use Rattle.typify_convert.specs.Stated.{is_none_of, states_no_default}
+use Rattle.stated_laws.specs.Stated.{stated_in_document}
 use Rattle.typify_convert.specs.Refused as convert
 use Rattle.schema_tree.specs.Conversions.{conversions_view}
 use Rattle.attr_parts.specs.declared.derive.Derive.TheVariants.{Deserialize}
@@ -26,10 +26,15 @@ use Rattle.typify_run.specs.Verdicts.{AreVerdicts}
 use Rattle.typify_run.specs.Headline.{Deriving, read_of, items_of, root_of, emission_in}
 use Rattle.typify_run.specs.declared.report.Report.{Report}
 
--- no schema of the document has a fault, each listed value is read by the type of its schema's other keywords, and no default is stated, which would have to be checked
+abbrev pub is_none_of : {A : Type 0} → List A → Bool
+is_none_of [] = true
+is_none_of (x ∷ xs) = false
+
+-- no schema of the document has a fault, none states a default at an optional property, which would have to be checked, and each listed value is read by the type of its schema's other
+-- keywords
 abbrev pub is_converted : Relations → ℕ → Option Document → Bool
 is_converted r depth None = false
-is_converted r depth (Some d) = is_none_of (faults_of r d depth) && (is_none_of (unread_in_document r d depth) && states_no_default (emission_of r d depth).conversions)
+is_converted r depth (Some d) = is_none_of (faults_of r d depth) && (is_none_of (stated_in_document r d depth) && is_none_of (unread_in_document r d depth))
 
 -- the values' numbers are i64, and the schema is a document that is converted
 abbrev pub is_examined : Relations → ℕ → Value → List Data → Bool
@@ -63,14 +68,14 @@ pub record IsMadeOf (r : Relations) (d : Document) (depth : ℕ) (values : List 
   pub notes : report.notes.items ≡ map note_of (notes_of r d depth)
   pub faultless : faults_of r d depth ≡ []
   pub listed : unread_in_document r d depth ≡ []
-  pub unstated : states_no_default (emission_of r d depth).conversions ≡ true
+  pub unstated : stated_in_document r d depth ≡ []
   pub verdicts : AreVerdicts (read_of as_it_stands (items_of report)) (conversions_view report.conversions) r (root_of report) values (map verdict_view report.verdicts.items)
 
 abbrev pub IsUnreported : Relations → Document → ℕ → ℕ → ℕ → FaultD → Type 0
 IsUnreported r d depth before after f = convert.IsRefusal r d depth before after f
 
 -- The report is of what is emitted for the document that the schema is: the items, the table of conversions and the root's type are the emission of the
--- table of its entries, and the notes are its notes, in their order. Its schemas have no fault, each listed value is read, and no default is stated, which would have to be checked.
+-- table of its entries, and the notes are its notes, in their order. Its schemas have no fault and state no default at an optional property, which would have to be checked, and each listed value is read.
 pub record IsEmission (r : Relations) (depth : ℕ) (schema : Value) (report : Report) : Type 0 where
   pub document : Document
   pub is_read : IsReadAs Strict schema document
@@ -78,4 +83,4 @@ pub record IsEmission (r : Relations) (depth : ℕ) (schema : Value) (report : R
   pub notes : report.notes.items ≡ map note_of (notes_of r document depth)
   pub faultless : faults_of r document depth ≡ []
   pub listed : unread_in_document r document depth ≡ []
-  pub unstated : states_no_default (emission_of r document depth).conversions ≡ true
+  pub unstated : stated_in_document r document depth ≡ []

@@ -88,9 +88,9 @@ fn report_of<T: Texts>(
 
 /// The items that stand for a schema document, the notes, and a verdict for each value, in order. `depth` bounds the steps from a definition
 /// or the root to a schema of it. Refused are a number of a value that isn't an i64 (`ValueNumber`), then the faults of `Document::read`, then
-/// those of `converted`: the first in the order of conversion, the first listed value that its type doesn't read (`InvalidValue`), and a document that
-/// states a default at an optional property, which isn't checked yet (`Unsupported` of kind `NotYet`, at the root). `Texts` comes where the judge of texts failed: at the schema that asked it, or at the root where
-/// it failed at a value. Fails with `Memory` where memory runs out.
+/// those of `converted`: the first in the order of conversion, among them the first optional property that states a default, which isn't checked yet
+/// (`Unsupported` of kind `NotYet`), and then the first listed value that its type doesn't read (`InvalidValue`). `Texts` comes where the judge of
+/// texts failed: at the schema that asked it, or at the root where it failed at a value. Fails with `Memory` where memory runs out.
 #[tactic(auto, using(crate::proofs::Causes::wide_refused, crate::proofs::Causes::unread_refused, crate::proofs::Causes::unreported_refused))]
 pub fn examine<T: Texts>(
     alloc: Global,

@@ -6,18 +6,15 @@ use Rattle.naming_defs.specs.Good.{is_good_name}
 use Rattle.emit_defs.specs.Emission.{emission}
 use Rattle.schema_tree.specs.Document.{view as document_seen}
 use Rattle.space_trees.specs.Formed.{IsFormed}
-use Rattle.emit_defs.specs.Emission.{Emission}
+use Rattle.document_laws.specs.Laws.{plan_of}
 use Rattle.convert_defs.specs.Row.{Note}
 use Rattle.convert_defs.specs.Order.{ordered}
 use Rattle.std.proofs.Common.{List, map, option_map}
 use Rattle.convert_trees.specs.Unread.{unread_in_document}
 use Rattle.convert_trees.specs.Keeping.{unread_view}
 use Rattle.convert_trees.proofs.Here.{if_err}
-use Rattle.typify_convert.proofs.Firsts.{all_read, unread_refused, stated_refused}
+use Rattle.typify_convert.proofs.Firsts.{all_read, unread_refused}
 use Rattle.typify_convert.specs.Note.{note_of}
-use Rattle.typify_convert.specs.Emitted.{emitted_view}
-use Rattle.typify_convert.specs.Stated.{states_no_default}
-use Rattle.typify_convert.specs.declared.conversion.Emitted.{Emitted}
 use Rattle.typify_convert.proofs.conversion.converted.Goals as goal
 
 pub from_table-requires-clause-sound : goal.from_table-requires-clause-sound
@@ -34,18 +31,19 @@ from_table-requires-clause-formed g c =
 
 pub returns-in-Ok-clause-emission : goal.returns-in-Ok-clause-emission
 returns-in-Ok-clause-emission g c =
-    ap emitted_view c.in_ok-kept-in-Ok.ensures.same ∙ c.in-Ok.ensures.emission
+    c.in-Ok.ensures.emission
     ∙ ap (λ (t : Table). emission (named_table is_good_name t) (root_of (named_table is_good_name t))) c.in_ok-converted.ensures.table
 
 pub returns-in-Ok-clause-notes : goal.returns-in-Ok-clause-notes
 returns-in-Ok-clause-notes g c =
-    ap (λ (e : Emitted). e.notes.items) c.in_ok-kept-in-Ok.ensures.same ∙ c.in-Ok.ensures.notes
+    c.in-Ok.ensures.notes
     ∙ ap (λ (ns : List Note). map note_of (ordered ns)) c.in_ok-converted.ensures.notes
 
 pub returns-in-Ok-clause-built : goal.returns-in-Ok-clause-built
 returns-in-Ok-clause-built g c =
-    sym (ap (λ (k : Emission). states_no_default k.conversions) (c.in-Ok.ensures.emission ∙ ap (λ (t : Table). emission (named_table is_good_name t) (root_of (named_table is_good_name t))) c.in_ok-converted.ensures.table))
-    ∙ c.in_ok-kept-in-Ok.ensures.none
+    let r = g.T.Texts.relations c.args.texts.now in
+    let d = document_seen c.args.document.now in
+    c.unstated_documents.ensures r d c.args.depth (root_of (plan_of r d c.args.depth)) c.in_ok-converted.ensures.stated
 
 pub returns-in-Ok-clause-read : goal.returns-in-Ok-clause-read
 returns-in-Ok-clause-read g c =
@@ -58,15 +56,4 @@ returns-in_err-check_read-clause-refused g c =
     let r = g.T.Texts.relations c.args.texts.now in
     let d = document_seen c.args.document.now in
     if_err c.from_residual-in_err-check_read.result c.in_err-check_read.field-0.0 _ c.from_residual-in_err-check_read.ensures.1
-    (unread_refused r d c.args.depth _ _ _ (option_map unread_view c.in_ok-converted.converted.unread) c.in_ok-converted.ensures.faultless c.in_ok-converted.ensures.unread c.in_err-check_read.ensures.told)
-
-pub returns-in_err-kept-in-Ok-clause-refused : goal.returns-in_err-kept-in-Ok-clause-refused
-returns-in_err-kept-in-Ok-clause-refused g c =
-    let r = g.T.Texts.relations c.args.texts.now in
-    let d = document_seen c.args.document.now in
-    if_err c.from_residual-in_err-kept-in-Ok.result c.in_err-kept-in-Ok.field-0.0 _ c.from_residual-in_err-kept-in-Ok.ensures.1
-    (stated_refused r d c.args.depth _ _ _ c.in_ok-converted.ensures.faultless
-    (all_read r d c.args.depth (unread_in_document r d c.args.depth) (sym (ap (option_map unread_view) c.in_ok-check_read.ensures.read) ∙ c.in_ok-converted.ensures.unread))
-    (sym (ap (λ (k : Emission). states_no_default k.conversions) (c.in-Ok.ensures.emission ∙ ap (λ (t : Table). emission (named_table is_good_name t) (root_of (named_table is_good_name t))) c.in_ok-converted.ensures.table))
-    ∙ c.in_err-kept-in-Ok.ensures.some)
-    c.in_err-kept-in-Ok.ensures.told)
+    (unread_refused r d c.args.depth _ _ _ (option_map unread_view c.in_ok-converted.converted.unread) c.in_ok-converted.ensures.faultless c.in_ok-converted.ensures.stated c.in_ok-converted.ensures.unread c.in_err-check_read.ensures.told)

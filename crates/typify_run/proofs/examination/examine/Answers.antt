@@ -45,7 +45,7 @@ pub returns-clause-examined : goal.returns-clause-examined
 returns-clause-examined g c =
     let h = c.in_ok-report.ensures.report in
     examined_so (g.T.Texts.relations c.args.texts.now) c.args.depth (value_of (view c.args.document.now)) (map view c.args.values.now) (document_seen c.in_ok-read.read)
-    c.in_ok-check_values.ensures.fine c.in_ok-read.ensures.document h.faultless h.listed h.unstated
+    c.in_ok-check_values.ensures.fine c.in_ok-read.ensures.document h.faultless h.unstated h.listed
 
 pub returns-clause-accepted : goal.returns-clause-accepted
 returns-clause-accepted g c = (document_seen c.in_ok-read.read, c.in_ok-read.ensures.document)

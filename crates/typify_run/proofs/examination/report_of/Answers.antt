@@ -9,18 +9,16 @@ use Rattle.schema_tree.specs.Conversions.{conversions_view}
 use Rattle.schema_tree.specs.Document.{view as document_seen}
 use Rattle.emit_defs.specs.Emission.{Emission}
 use Rattle.derive_model.specs.VerdictView.{verdict_view}
-use Rattle.typify_convert.specs.Emitted.{emission_of}
 use Rattle.typify_run.specs.Headline.{read_of}
 use Rattle.typify_run.specs.Examine.{as_it_stands}
 use Rattle.typify_run.specs.Verdicts.{AreVerdicts}
-use Rattle.typify_run.proofs.Reported.{none_stated}
 use Rattle.typify_run.proofs.examination.report_of.Goals as goal
 
 pub judged-requires-clause-plain : goal.judged-requires-clause-plain
 judged-requires-clause-plain g c =
     let r = g.T.Texts.relations c.args.texts.now in
     let is = c.in_ok-emitted.ensures in
-    ap (λ (k : Emission). k.conversions.defaults) is.emission ∙ none_stated (emission_of r (document_seen c.args.document.now) c.args.depth) is.built
+    ap (λ (k : Emission). k.conversions.defaults) is.emission ∙ is.built
 
 pub returns-clause-report : goal.returns-clause-report
 returns-clause-report g c =
@@ -37,6 +35,6 @@ returns-clause-report g c =
       notes = is.notes;
       faultless = is.faultless;
       listed = is.read;
-      unstated = is.built;
+      unstated = is.unstated;
       verdicts = subst (λ (is : List DeriveInput). AreVerdicts (read_of as_it_stands (map item_view is)) cs r t values verdicts) c.deref.ensures.value told;
     }
