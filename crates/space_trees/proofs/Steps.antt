@@ -17,7 +17,7 @@ use Rattle.entry_defs.specs.Table.{TargetEntry, Table, same_target}
 use Rattle.entry_space.specs.Entered.{filled}
 use Rattle.entry_trees.specs.View.{item_in, item_entry}
 use Rattle.space_trees.specs.Placed.{put, rest_or_first, placed}
-use Rattle.space_trees.specs.Filled.{led_from, ids_in, opened_targets, filled_targets, placed_tree, placed_rest, placed_trees, placed_table}
+use Rattle.space_trees.specs.Filled.{led_from, ids_in, opened_targets, filled_targets, placed_targets, placed_tree, placed_rest, placed_trees, placed_table}
 use Rattle.space_trees.specs.Leading.{found_led, ids_of, or_led, led_once}
 use Rattle.space_trees.specs.declared.led.Led.{Led}
 use Rattle.space_trees.specs.Parts.{is_item_entry, reference_in}
@@ -91,9 +91,12 @@ definition_added l new bs key p r d m (definition k) = m k ∙ ap (λ z. or_led 
 pub found_by : {Y : Type 0} (m : BTreeMap (String Y) Id) (bs key : List ℕ) (o : Option Id) → bs ≡ key → o ≡ get_by_text m bs → o ≡ get_by_text m key
 found_by m bs key o d h = h ∙ ap (get_by_text m) d
 
-pub led_begin : (l : Led) (ts : List TargetEntry) → l.definitions.entries ≡ [] → l.root ≡ None → (q : Target) → or_led (found_led l q) (led_from 0 ts q) ≡ led_from 0 ts q
-led_begin l ts d r the_root = ap (λ o. or_led o (led_from 0 ts the_root)) r
-led_begin l ts d r (definition k) = ap (λ o. or_led o (led_from 0 ts (definition k))) (ap (lookup (is_at (λ j. slice_cmp nat_cmp k (string_bytes j)))) d)
+pub none_led : (l : Led) → l.definitions.entries ≡ [] → l.root ≡ None → (q : Target) → found_led l q ≡ None
+none_led l d r the_root = r
+none_led l d r (definition k) = ap (lookup (is_at (λ j. slice_cmp nat_cmp k (string_bytes j)))) d
+
+pub led_begin : (l : Led) (ts : List TargetEntry) → ((q : Target) → found_led l q ≡ None) → (q : Target) → or_led (found_led l q) (led_from 0 ts q) ≡ led_from 0 ts q
+led_begin l ts e q = ap (λ o. or_led o (led_from 0 ts q)) (e q)
 
 pub led_turn : (t : TargetEntry) (ts : List TargetEntry) (i : ℕ) (q : Target) (old new : Option Id) (w : Option Id) → new ≡ or_led old (led_once t.target i q)
     → or_led old (led_from i (t ∷ ts) q) ≡ w → or_led new (led_from (suc i) ts q) ≡ w
@@ -139,14 +142,14 @@ a_reference l e q i s h f = absurd (true≢false (ap is_some h))
 
 -- ---- the whole table
 
-pub placed_by : (ts : List TargetEntry) (es : List Entry) (l : Led) (z a b : Space) (w : Space × Id) → ((q : Target) → found_led l q ≡ led_from 0 ts q) → z ≡ [] → a ≡ opened_targets ts z
-    → b ≡ filled_targets (ids_of l) 0 ts a → placed_trees (ids_of l) es b ≡ w → placed_table (record { targets = ts; trees = es }) ≡ w
-placed_by ts es l z a b w same empty first second third =
+pub targets_placed : (ts : List TargetEntry) (l : Led) (z a b : Space) → z ≡ [] → a ≡ opened_targets ts z → b ≡ filled_targets (ids_of l) 0 ts a → b ≡ placed_targets (ids_of l) ts
+targets_placed ts l z a b empty first second = second ∙ ap (filled_targets (ids_of l) 0 ts) (first ∙ ap (opened_targets ts) empty)
+
+pub placed_by : (ts : List TargetEntry) (es : List Entry) (l : Led) (b : Space) (w : Space × Id) → ((q : Target) → found_led l q ≡ led_from 0 ts q) → b ≡ placed_targets (ids_of l) ts → placed_trees (ids_of l) es b ≡ w
+    → placed_table (record { targets = ts; trees = es }) ≡ w
+placed_by ts es l b w same made rest =
     let t : Table = record { targets = ts; trees = es } in
-    let e : ids_in t ≡ ids_of l = λ x q. rest_or_first (sym (same q) x) in
-    ap (λ (i : Target → Id). placed_trees i es (filled_targets i 0 ts (opened_targets ts []))) e
-    ∙ ap (λ y. placed_trees (ids_of l) es (filled_targets (ids_of l) 0 ts (opened_targets ts y))) (sym empty)
-    ∙ ap (λ y. placed_trees (ids_of l) es (filled_targets (ids_of l) 0 ts y)) (sym first) ∙ ap (placed_trees (ids_of l) es) (sym second) ∙ third
+    let e : ids_in t ≡ ids_of l = λ x q. rest_or_first (sym (same q) x) in ap (λ (i : Target → Id). placed_trees i es (placed_targets i ts)) e ∙ ap (placed_trees (ids_of l) es) (sym made) ∙ rest
 
 pub all_trees : (ids : Target → Id) (e : Entry) (es : List Entry) (s t u : Space) (i : Id) → placed_tree ids e s ≡ (t, i) → u ≡ placed_rest ids es t → placed_trees ids (e ∷ es) s ≡ (u, i)
 all_trees ids e es s t u i f g = ap (λ (a : Space × Id). (placed_rest ids es a.0, a.1)) f ∙ ap (λ (z : Space). (z, i)) (sym g)

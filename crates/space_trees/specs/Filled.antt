@@ -34,6 +34,10 @@ module _ (ids : Target → Id) where
   filled_targets i [] s = s
   filled_targets i (t ∷ ts) s = filled_targets (suc i) ts (placed ids (Some i) (item t.led_to.name t.led_to.shape) s).0
 
+  -- opened, and then filled
+  abbrev pub placed_targets : List TargetEntry → Space
+  placed_targets ts = filled_targets zero ts (opened_targets ts [])
+
   -- ---- trees
 
   -- for a reference nothing is entered: its id is that of what it leads to
@@ -51,4 +55,8 @@ module _ (ids : Target → Id) where
   placed_trees (e ∷ es) s = let a = placed_tree e s in (placed_rest es a.0, a.1)
 
 abbrev pub placed_table : Table → Space × Id
-placed_table t = placed_trees (ids_in t) t.trees (filled_targets (ids_in t) zero t.targets (opened_targets t.targets []))
+placed_table t = placed_trees (ids_in t) t.trees (placed_targets (ids_in t) t.targets)
+
+-- the space of targets and of trees that come one after another, where there may be none
+abbrev pub space_so_far : Table → Space
+space_so_far t = placed_rest (ids_in t) t.trees (placed_targets (ids_in t) t.targets)

@@ -14,14 +14,27 @@ use std::collections::BTreeMap;
 
 /// The places of targets, which are the ids of their items.
 #[derive(Drop)]
-pub(crate) struct Led {
-    pub definitions: BTreeMap<String, u32>,
-    pub root: Option<u32>,
+pub struct Led {
+    pub(crate) definitions: BTreeMap<String, u32>,
+    pub(crate) root: Option<u32>,
 }
 
-/// The id of the item that a reference leads to.
+impl Led {
+    /// No reference leads anywhere. It takes no memory.
+    #[tactic(auto, using(crate::proofs::Steps::none_led))]
+    pub fn new(alloc: Global) -> Led
+        ensures { (q : TargetD) → found_led result q ≡ None }
+    {
+        Led {
+            definitions: BTreeMap::new(alloc),
+            root: None,
+        }
+    }
+}
+
+/// The id of the item that a reference leads to. It takes no memory.
 #[tactic(auto, using(crate::proofs::Steps::found_by))]
-pub(crate) fn led_to(led: &Led, target: &Target) -> Option<TypeId>
+pub fn led_to(led: &Led, target: &Target) -> Option<TypeId>
     ensures { option_map id_view result ≡ found_led led.now (target_view target.now) }
 {
     match target {
@@ -93,10 +106,7 @@ pub(crate) fn led_by<'d>(
 ) -> Result<Led, AllocError>
     ensures { IfOk result (λ l. (q : TargetD) → found_led l q ≡ led_from 0 (map target_entry targets.now.items) q) }
 {
-    let mut led = Led {
-        definitions: BTreeMap::new(alloc),
-        root: None,
-    };
+    let mut led = Led::new(alloc);
     let mut place: u32 = 0;
     for target in targets {
         add_target(&mut led, alloc, &target.0, place)?;

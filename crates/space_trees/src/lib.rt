@@ -9,4 +9,5 @@ mod led;
 mod table;
 mod trees;
 
-pub use table::{Planned, space_of};
+pub use led::{Led, led_to};
+pub use table::{LedSpace, Planned, place_alone, space_of, targets_space};

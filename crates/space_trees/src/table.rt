@@ -1,6 +1,7 @@
 //! Tables that are entered into a space.
 ghost use Rattle.std.specs.Prelude.{◌≡◌, Some, IfOk, OnOk, map, option_map};
 ghost use Rattle.std.specs.List.{IsDistinct};
+ghost use Rattle.entry_defs.specs.Entry.{Target as TargetD};
 ghost use Rattle.entry_defs.specs.Table.{root_of};
 ghost use Rattle.entry_defs.specs.Sound.{IsSound};
 ghost use Rattle.emit_defs.specs.Emission.{emission};
@@ -11,9 +12,9 @@ ghost use Rattle.entry_space.specs.Keys.{same_key};
 ghost use Rattle.entry_space.specs.Seen.{seen};
 ghost use Rattle.entry_trees.specs.View.{target_view, target_entry, atom_view, tree_view, item_in, item_entry, table_view};
 ghost use Rattle.space_trees.specs.Placed.{placed};
-ghost use Rattle.space_trees.specs.Filled.{leads_in, opened_targets, filled_targets, placed_tree, placed_rest, placed_trees, placed_table};
+ghost use Rattle.space_trees.specs.Filled.{leads_in, led_from, opened_targets, filled_targets, placed_targets, placed_tree, placed_rest, placed_trees, placed_table};
 ghost use Rattle.space_trees.specs.Formed.{IsFormed};
-ghost use Rattle.space_trees.specs.Leading.{ids_of};
+ghost use Rattle.space_trees.specs.Leading.{found_led, ids_of};
 ghost use Rattle.space_trees.specs.Parts.{is_item_entry, is_newtype_wrap, wrap_name, name_in, reference_in};
 
 use crate::copies::label_text;
@@ -162,9 +163,10 @@ fn reference_of<'t>(tree: &'t Tree<'_>) -> Option<&'t Target>
     }
 }
 
-// For a reference nothing is entered.
+/// Enters a tree of a table, behind what stands there, and answers its id; for a reference nothing is entered, and the id is that of
+/// the item that it leads to. Fails only for want of memory, or of an id, and where a reference leads nowhere.
 #[tactic(auto, using(crate::proofs::Steps::no_reference, crate::proofs::Steps::a_reference))]
-fn place_alone(
+pub fn place_alone(
     space: &mut EntrySpace,
     alloc: Global,
     led: &Led,
@@ -217,16 +219,37 @@ fn place_trees<'d>(
     Ok(id)
 }
 
-#[tactic(auto, using(crate::proofs::Steps::placed_by))]
+/// A space that holds targets, and where references lead in it.
+#[derive(Drop)]
+pub struct LedSpace {
+    pub space: EntrySpace,
+    pub led: Led,
+}
+
+/// The space of the targets of a table, which have their names. The trees of the table come after them, one after another, each by
+/// `place_alone`. Fails only for want of memory, or of an id.
+#[tactic(auto, using(crate::proofs::Steps::targets_placed))]
+pub fn targets_space<'d>(
+    alloc: Global,
+    targets: &Vec<(Target, Tree<'d>)>,
+) -> Result<LedSpace, AllocError>
+    ensures space { IfOk result (λ o. seen o.space ≡ placed_targets (ids_of o.led) (map target_entry targets.now.items)) }
+    ensures led { IfOk result (λ o. (q : TargetD) → found_led o.led q ≡ led_from 0 (map target_entry targets.now.items) q) }
+{
+    let led = led_by(alloc, targets)?;
+    let mut space = EntrySpace::new(alloc);
+    open_targets(&mut space, alloc, targets)?;
+    fill_targets(&mut space, alloc, &led, targets)?;
+    Ok(LedSpace { space, led })
+}
+
 fn place_table<'d>(alloc: Global, table: &TreeTable<'d>) -> Result<Planned, AllocError>
     ensures placed { IfOk result (λ p. placed_table (table_view table.now) ≡ (seen p.space, id_view p.root)) }
     ensures apart { IfOk result (λ p. IsDistinct same_key (seen p.space)) }
 {
-    let led = led_by(alloc, &table.targets)?;
-    let mut space = EntrySpace::new(alloc);
-    open_targets(&mut space, alloc, &table.targets)?;
-    fill_targets(&mut space, alloc, &led, &table.targets)?;
-    let root = place_trees(&mut space, alloc, &led, &table.trees)?;
+    let opened = targets_space(alloc, &table.targets)?;
+    let mut space = opened.space;
+    let root = place_trees(&mut space, alloc, &opened.led, &table.trees)?;
     let _ = space.iter();
     Ok(Planned { space, root })
 }
