@@ -9,3 +9,4 @@ mod noting;
 
 pub use conversion::{Emitted, converted};
 pub use note::{Note, NoteKind, Way};
+pub use noting::notes_of;

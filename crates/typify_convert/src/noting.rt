@@ -49,8 +49,8 @@ fn note_of(note: PlacedNote) -> Note
     }
 }
 
-/// The notes, in their order.
-pub(crate) fn notes_of(alloc: Global, placed: Vec<PlacedNote>) -> Result<Vec<Note>, AllocError>
+/// The notes as they are told, in the order in which they stand. Fails only for want of memory.
+pub fn notes_of(alloc: Global, placed: Vec<PlacedNote>) -> Result<Vec<Note>, AllocError>
     ensures { IfOk result (λ v. v.items ≡ map note_told (notes_view placed.items)) }
 {
     let mut notes = Vec::with_capacity(alloc, placed.len())?;
