@@ -1,0 +1,6 @@
+pub mod Planned
+pub mod Taken
+pub mod Standing
+pub mod Holding
+pub mod Told
+pub mod Refusals

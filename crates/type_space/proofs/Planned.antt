@@ -1,0 +1,75 @@
+-- A plan that grows tree by tree.
+use Rattle.std.proofs.Common.{◌≡◌, ℕ, List, [], ◌∷◌, ◌++◌, None, codes, refl, sym, ap, subst, ◌∙◌}
+use Rattle.entry_defs.specs.Entry.{Target, Entry}
+use Rattle.entry_defs.specs.Space.{Id, Space}
+use Rattle.entry_defs.specs.Table.{TargetEntry, Table}
+use Rattle.naming_defs.specs.Names.{Names, keys, named, named_trees}
+use Rattle.naming_defs.specs.Good.{is_good_name}
+use Rattle.good_names.specs.Given.{Stands, Does}
+use Rattle.entry_space.specs.Seen.{seen}
+use Rattle.tree_names.specs.Folded.{targets_first, taken_after}
+use Rattle.tree_names.specs.Seen.{entry_named}
+use Rattle.space_trees.specs.Filled.{led_from, ids_in, placed_targets, placed_tree, placed_rest, space_so_far}
+use Rattle.space_trees.specs.Leading.{found_led, ids_of}
+use Rattle.space_trees.specs.Placed.{rest_or_first}
+use Rattle.space_trees.specs.declared.led.Led.{Led}
+use Rattle.type_space.specs.Placing.{with_names, entries_of, with_tree, next_named, Plans, PlansMore}
+use Rattle.type_space.specs.declared.plan.Plan.{Plan}
+
+abbrev T : List ℕ
+T = codes "Type"
+
+-- ---- one more tree
+
+named-more : (b : Names) (es : List Entry) (e : Entry) (u : Names)
+    → named_trees is_good_name b (es ++ e ∷ []) u
+    ≡ ((named is_good_name b e (named_trees is_good_name b es u).0).0, (named_trees is_good_name b es u).1 ++ (named is_good_name b e (named_trees is_good_name b es u).0).1 ∷ [])
+named-more b [] e u = refl
+named-more b (x ∷ es) e u = let a = named is_good_name b x u in ap (λ (z : Names × List Entry). (z.0, a.1 ∷ z.1)) (named-more b es e a.0)
+
+placed-more : (ids : Target → Id) (es : List Entry) (e : Entry) (s : Space) → placed_rest ids (es ++ e ∷ []) s ≡ (placed_tree ids e (placed_rest ids es s)).0
+placed-more ids [] e s = refl
+placed-more ids (x ∷ es) e s = placed-more ids es e (placed_tree ids x s).0
+
+more : (t : Table) (e : Entry) → with_names (with_tree t e) ≡ with_tree (with_names t) (next_named t e)
+more t e = λ i. record { targets = (with_names t).targets; trees = (named-more (keys is_good_name t.targets) t.trees e (targets_first t.targets).0 i).1 }
+
+more-taken : (t : Table) (e : Entry) → taken_after (with_tree t e) ≡ (named is_good_name (keys is_good_name t.targets) e (taken_after t)).0
+more-taken t e = ap (λ (z : Names × List Entry). z.0) (named-more (keys is_good_name t.targets) t.trees e (targets_first t.targets).0)
+
+more-entries : (t : Table) (e : Entry) → entries_of (with_tree t e) ≡ (placed_tree (ids_in (with_names t)) (next_named t e) (entries_of t)).0
+more-entries t e =
+    ap space_so_far (more t e) ∙ placed-more (ids_in (with_names t)) (with_names t).trees (next_named t e) (placed_targets (ids_in (with_names t)) (with_names t).targets)
+
+ids-are : (l : Led) (t : Table) → ((q : Target) → found_led l q ≡ led_from 0 t.targets q) → ids_of l ≡ ids_in t
+ids-are l t same = λ x q. rest_or_first (same q x)
+
+pub tree_plans : (p q : Plan) (t : Table) (y e : Entry) (i : Id) → Plans p t → Does T p.names q.names y (entry_named e) → placed_tree (ids_of p.led) y (seen p.space) ≡ (seen q.space, i) → q.led ≡ p.led → PlansMore q t e i
+tree_plans p q t y e i h d w l =
+    let k = keys is_good_name t.targets in
+    let x = d.step k (taken_after t) h.names in
+    let same : placed_tree (ids_in (with_names t)) (next_named t e) (entries_of t) ≡ (seen q.space, i)
+    = (λ j. placed_tree (sym (ids-are p.led (with_names t) h.led) j) (sym x.0 j) (sym h.entries j)) ∙ w in
+    record {
+      plans = record {
+        entries = sym (more-entries t e ∙ ap (λ (a : Space × Id). a.0) same);
+        names = subst (λ (u : Names). Stands q.names T u k) (sym (more-taken t e)) x.1;
+        led = λ z. ap (λ m. found_led m z) l ∙ h.led z ∙ sym (ap (λ (t : Table). led_from 0 t.targets z) (more t e));
+      };
+      id = sym (ap (λ (a : Space × Id). a.1) same);
+    }
+
+-- ---- targets
+
+pub targets_plan : (p : Plan) (xs ts : List TargetEntry) → ts ≡ (targets_first xs).1 → Stands p.names T (targets_first xs).0 (keys is_good_name xs) → seen p.space ≡ placed_targets (ids_of p.led) ts
+    → ((q : Target) → found_led p.led q ≡ led_from 0 ts q) → Plans p (record { targets = xs; trees = [] })
+targets_plan p xs ts e st made led =
+    let there : (q : Target) → found_led p.led q ≡ led_from 0 (targets_first xs).1 q = λ q. led q ∙ ap (λ z. led_from 0 z q) e in
+    record {
+      entries = made ∙ (λ i. placed_targets (ids-are p.led (record { targets = (targets_first xs).1; trees = [] }) there i) (e i));
+      names = st;
+      led = there;
+    }
+
+pub empty_plans : (p : Plan) → ((prefix : List ℕ) → Stands p.names prefix [] []) → ((q : Target) → found_led p.led q ≡ None) → seen p.space ≡ [] → Plans p (record { targets = []; trees = [] })
+empty_plans p st led made = record { entries = made; names = st T; led = led }
