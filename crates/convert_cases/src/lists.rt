@@ -1,8 +1,6 @@
 //! What is shown of heads, rules and tags.
 use entry_trees::{FieldHead, Label, Target, TreeRule};
-use entry_types::IntName;
 use row_types::{FieldState, GivenValues, TagRow};
-use schema_tree::Format;
 use serde_json::Value;
 use std::alloc::AllocError;
 use std::fmt::Write;
@@ -84,33 +82,5 @@ pub(crate) fn push_tag(out: &mut String, tag: &TagRow<'_>) -> Result<(), AllocEr
         TagRow::Internal(tag) => write!(out, " internal {tag}"),
         TagRow::Adjacent(tag, content) => write!(out, " adjacent {tag} {content}"),
         TagRow::Untagged => out.push_str(" untagged"),
-    }
-}
-
-pub(crate) fn int_word(name: IntName) -> &'static str {
-    match name {
-        IntName::I8 => "i8",
-        IntName::U8 => "u8",
-        IntName::I16 => "i16",
-        IntName::U16 => "u16",
-        IntName::I32 => "i32",
-        IntName::U32 => "u32",
-        IntName::I64 => "i64",
-        IntName::U64 => "u64",
-        IntName::NonZeroU8 => "non-zero u8",
-        IntName::NonZeroU16 => "non-zero u16",
-        IntName::NonZeroU32 => "non-zero u32",
-        IntName::NonZeroU64 => "non-zero u64",
-    }
-}
-
-pub(crate) fn format_word(format: Format) -> &'static str {
-    match format {
-        Format::Uuid => "uuid",
-        Format::Date => "date",
-        Format::DateTime => "date-time",
-        Format::Ip => "ip",
-        Format::Ipv4 => "ipv4",
-        Format::Ipv6 => "ipv6",
     }
 }

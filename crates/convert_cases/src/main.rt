@@ -2,17 +2,16 @@
 //! begin with the number of steps that walks may have; else that is eight.
 #![tactic(auto)]
 
-mod faults;
 mod lists;
 mod notes;
 mod tables;
 mod trees;
 
+use case_words::fault_text;
 use convert_trees::table_of;
-use faults::push_fault;
 use notes::{push_notes, push_unread};
 use regex_texts::RegexTexts;
-use schema_tree::{Document, Fault};
+use schema_tree::Document;
 use serde_json::Value;
 use std::alloc::{AllocError, Global};
 use tables::push_table;
@@ -51,7 +50,7 @@ fn answer(
     };
     match Document::read(alloc, &value) {
         Ok(document) => converted(alloc, depth, &document, texts),
-        Err(fault) => told(alloc, &fault),
+        Err(fault) => fault_text(alloc, &fault),
     }
 }
 
@@ -69,12 +68,6 @@ fn converted(
             push_unread(alloc, &mut line, &found.unread)?;
             Ok(line)
         }
-        Err(fault) => told(alloc, &fault),
+        Err(fault) => fault_text(alloc, &fault),
     }
-}
-
-fn told(alloc: Global, fault: &Fault) -> Result<String, AllocError> {
-    let mut line = String::new(alloc);
-    push_fault(alloc, &mut line, fault)?;
-    Ok(line)
 }

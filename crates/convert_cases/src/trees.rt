@@ -1,7 +1,6 @@
 //! Trees as text.
-use crate::lists::{
-    format_word, int_word, push_head, push_label, push_rule, push_tag, push_target,
-};
+use crate::lists::{push_head, push_label, push_rule, push_tag, push_target};
+use case_words::{format_word, int_word};
 use entry_trees::{Atom, ContentKind, FieldHead, Label, Tree, VariantHead, Wrap};
 use std::alloc::AllocError;
 use std::fmt::Write;

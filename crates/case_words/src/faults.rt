@@ -4,7 +4,7 @@ use std::alloc::{AllocError, Global};
 use std::fmt::Write;
 
 /// The name of the fault, its place, and what it says besides.
-pub(crate) fn push_fault(alloc: Global, out: &mut String, fault: &Fault) -> Result<(), AllocError> {
+pub fn push_fault(alloc: Global, out: &mut String, fault: &Fault) -> Result<(), AllocError> {
     match fault {
         Fault::Depth { walk } => {
             out.push_str("Depth")?;
@@ -23,6 +23,11 @@ pub(crate) fn push_fault(alloc: Global, out: &mut String, fault: &Fault) -> Resu
             push_place(alloc, out, path)?;
             write!(out, " {value}")
         }
+        Fault::InvalidValue { path, value } => {
+            out.push_str("InvalidValue")?;
+            push_place(alloc, out, path)?;
+            write!(out, " {value}")
+        }
         Fault::InvalidSchema { path, kind } => {
             out.push_str(invalid_word(*kind))?;
             push_place(alloc, out, path)
@@ -37,6 +42,13 @@ pub(crate) fn push_fault(alloc: Global, out: &mut String, fault: &Fault) -> Resu
         }
         _ => out.push_str("not read"),
     }
+}
+
+/// The same as a text of its own.
+pub fn fault_text(alloc: Global, fault: &Fault) -> Result<String, AllocError> {
+    let mut text = String::new(alloc);
+    push_fault(alloc, &mut text, fault)?;
+    Ok(text)
 }
 
 fn push_place(alloc: Global, out: &mut String, place: &Location) -> Result<(), AllocError> {
