@@ -1,0 +1,4 @@
+pub mod Negations
+pub mod Fates
+pub mod Finishing
+pub mod Listed
