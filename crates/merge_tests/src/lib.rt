@@ -1,0 +1,5 @@
+//! Tests: the worked calls of merging say true.
+#![tactic(auto)]
+
+#[cfg(test)]
+mod calls;
