@@ -1,0 +1,13 @@
+use Rattle.std.proofs.Common.{refl}
+use Rattle.std.specs.Str.{chars}
+use Rattle.schema_defs.specs.Location.{place}
+use Rattle.schema_defs.specs.Read.{document_of, definitions_of, schema_of, plain_of, numbers_of, texts_of, same_of, lists_of, named_of}
+use Rattle.convert_walks.proofs.examples.constant_pages.Goals as goal
+
+pub returns : goal.returns
+unfolding chars place document_of definitions_of schema_of plain_of numbers_of texts_of same_of lists_of named_of
+returns c = record {
+  l = refl;
+  m = refl;
+  n = refl;
+}
