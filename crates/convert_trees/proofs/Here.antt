@@ -77,7 +77,7 @@ module _ (r : Relations) (d : Document) (most : ℕ) (n made : ℕ) (h : Handed)
       (subst (λ (r : Relations). Refuses r d most start old new (parts_nodes r d n (made - 1) h l ps) f) q k))))
 
   pub told_here : (r' : Relations) (j k o : KeptD) (w : Row) (e : Entry) → (made ≡ 0 → ⊥) → fd ≡ finding_of r d s → finding_faults r d most fd ≡ [] → stated_steps fd.row ≡ []
-      → cut_branches n l fd.branches ≡ [] → k.notes ≡ j.notes ++ placed l fd.notes → k.unread ≡ j.unread → w ≡ fd.row → r' ≡ r → e ≡ entry_at r d n made h s
+      → cut_branches n l fd.branches ≡ [] → k.notes ≡ j.notes ++ placed l fd.notes → k.values ≡ j.values → w ≡ fd.row → r' ≡ r → e ≡ entry_at r d n made h s
       → IsToldOf r' d most l w e (parts_nodes r' d n (made - 1) h l (row_parts w)) k o → IsTold r d most (nodes_at r d n made h l s) j o
   told_here r' j k o w e m g f v b a u p q is t =
       let at : e ≡ entry_at r d n (suc (made - 1)) h s = is ∙ ap (λ i. entry_at r d n i h s) (sym (one_more made m)) in

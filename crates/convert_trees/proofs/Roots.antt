@@ -1,11 +1,15 @@
 -- A document: its definitions, and its root behind them.
-use Rattle.std.specs.Prelude.{Some, None}
+use Rattle.std.specs.Prelude.{Option, Some, None}
+use Rattle.json_value.specs.Value.{Value}
 use Rattle.std.proofs.Common.{◌≡◌, ℕ, suc, ◌≤◌, List, [], ◌∷◌, ◌++◌, Bool, true, false, map, refl, sym, ap, subst, ◌∙◌, inl, append-nil}
 use Rattle.schema_defs.specs.Location.{Location}
 use Rattle.schema_defs.specs.Texts.{Relations}
 use Rattle.schema_defs.specs.Schema.{Schema, Document}
 use Rattle.entry_defs.specs.Entry.{Entry}
 use Rattle.entry_defs.specs.Table.{Table, TargetEntry}
+use Rattle.convert_defs.specs.Row.{Row}
+use Rattle.convert_defs.specs.Table.{row_of}
+use Rattle.convert_defs.specs.Values.{inner_of, listed_in}
 use Rattle.convert_defs.specs.Convert.{Node, definition_target, definition_trees, document_tree, notes_in, raw_entry, root_entry, root_name, root_targets, root_tree, root_use, table_of, tree}
 use Rattle.convert_defs.specs.Faults.{faults_of}
 use Rattle.convert_defs.specs.RootReference.{refers_to_root}
@@ -14,11 +18,11 @@ use Rattle.schema_tree.specs.Fault.{FaultD, memory}
 use Rattle.convert_trees.specs.Places.{place_at}
 use Rattle.convert_trees.specs.Tables.{root_targets_of, root_use_of}
 use Rattle.convert_trees.specs.Told as told
-use Rattle.convert_trees.specs.Unread.{first_kept, unread_in_document}
-use Rattle.convert_trees.specs.Keeping.{KeptD}
+use Rattle.convert_trees.specs.Unread.{At, first_kept, unread_by, unread_in_document, unread_listed, unread_of}
+use Rattle.convert_trees.specs.Keeping.{KeptD, ValuesD, with_unread}
 use Rattle.convert_trees.specs.Told.{IsTold, Tells, Refuses, by_none, by_fault, RefusesAll, by_want, by_node}
 use Rattle.stated_laws.specs.Stated.{stated_in_document}
-use Rattle.convert_trees.proofs.Here.{refuses_from}
+use Rattle.convert_trees.proofs.Here.{none_from, refuses_from}
 use Rattle.convert_trees.proofs.Telling.{told_both, refuses_first, refuses_second}
 
 abbrev pub the_table : List TargetEntry → List Entry → Table
@@ -27,6 +31,15 @@ the_table ts es = record { targets = ts; trees = es }
 -- no step is taken yet
 pub begun : (start l : Location) (ss : List Steps) → ss ≡ [] → start ≡ l → place_at start ss ≡ l
 begun start l ss e g = ap (place_at start) e ∙ append-nil start ∙ g
+
+-- both parts of an empty list are empty
+no_parts : (us vs : List At) → us ++ vs ≡ [] → (us ≡ []) × (vs ≡ [])
+no_parts [] vs h = (refl, h)
+no_parts (u ∷ us) vs h = absurd (cc)
+
+nothing : (us : List At) → None ≡ first_kept None us → us ≡ []
+nothing [] h = refl
+nothing (u ∷ us) h = absurd (cc)
 
 module _ (r : Relations) (d : Document) (most : ℕ) where
   abbrev definitions_told : List Node
@@ -44,8 +57,26 @@ module _ (r : Relations) (d : Document) (most : ℕ) where
   pub all_notes : (j l : KeptD) → j.notes ≡ [] → IsTold r d most (document_tree r d most) j l → l.notes ≡ notes_in r d (document_tree r d most)
   all_notes j l e t = t.notes ∙ ap (λ ns. ns ++ notes_in r d (document_tree r d most)) e
 
-  pub all_unread : (j l : KeptD) → j.unread ≡ None → IsTold r d most (document_tree r d most) j l → l.unread ≡ first_kept None (unread_in_document r d most)
-  all_unread j l e t = t.unread ∙ ap (λ o. first_kept o (unread_in_document r d most)) e
+  -- what is kept of listed values, where nothing was kept before
+  pub all_values : (k : Option Table) (j l : KeptD) → j.values ≡ record { known = k; unread = None } → IsTold r d most (document_tree r d most) j l
+      → l.values.unread ≡ first_kept None (unread_listed r k d (document_tree r d most))
+  all_values k j l e t = ap (λ (v : ValuesD). v.unread) (t.values ∙ ap (λ v. with_unread (unread_listed r v.known d (document_tree r d most)) v) e)
+
+  -- the first of all, by the table that conversion gives, once it is known which is the first that is listed
+  pub unread_whole : (r' : Relations) (t : Table) (listed o : Option At) → r' ≡ r → t ≡ table_of r d most
+      → (listed ≡ first_kept None (unread_listed r' None d (document_tree r' d most)) → o ≡ first_kept None (unread_listed r' (Some t) d (document_tree r' d most)))
+      → listed ≡ first_kept None (unread_listed r None d (document_tree r d most)) → o ≡ first_kept None (unread_in_document r d most)
+  unread_whole r' t listed o e a f h =
+      f (h ∙ ap (λ r. first_kept None (unread_listed r None d (document_tree r d most))) (sym e))
+      ∙ (λ i. first_kept None (unread_listed (e i) (Some (a i)) d (document_tree (e i) d most)))
+
+  -- a refusal of a later conversion is one of the first
+  pub refuses_later : (f : FaultD) (r' : Relations) (first old new : ℕ) → r' ≡ r → first ≤ old → RefusesAll r' d most old new (document_tree r' d most) f → RefusesAll r d most first new (document_tree r d most) f
+  refuses_later f r' first old new e h k = subst (λ (r : Relations). RefusesAll r d most first new (document_tree r d most) f) e (earlier k)
+    where
+      earlier : RefusesAll r' d most old new (document_tree r' d most) f → RefusesAll r' d most first new (document_tree r' d most) f
+      earlier (by_want k) = by_want (none_from first old new f h k)
+      earlier (by_node start s t) = by_node start s t
 
   module _ (f : FaultD) (old new : ℕ) where
     pub want_all : (ts : List Node) → f ≡ memory → RefusesAll r d most old new ts f
@@ -103,6 +134,30 @@ module _ (r : Relations) (d : Document) (most : ℕ) where
       let at : e ≡ root_entry r d most = b ∙ ap (λ r. root_entry r d most) q in
       w ∙ (λ i. record { targets = a i ++ root_targets_of (refers_to_root d) (root_name d.root) (at i); trees = root_use_of (refers_to_root d) (at i) ∷ [] })
       ∙ (λ i. record { targets = map (definition_target r d most) d.definitions ++ same_targets (refers_to_root d) i; trees = same_use (refers_to_root d) i ∷ [] })
+
+-- ---- where no value is listed, none is unread
+
+abbrev placed : Location → List Value → List At
+placed l vs = map (λ v. (l, v)) vs
+
+module _ (r : Relations) (d : Document) (t : Table) where
+  none_of : (l : Location) (w : Row) (e : Entry) → unread_of r None l w e ≡ [] → unread_of r (Some t) l w e ≡ []
+  none_of l w e h = by (listed_in w) h
+    where
+      by : (vs : List Value) → placed l vs ≡ [] → placed l (unread_by r (Some t) (inner_of e) vs) ≡ []
+      by [] h = refl
+      by (v ∷ vs) h = absurd (cc)
+
+  none_in : (ts : List Node) → unread_listed r None d ts ≡ [] → unread_listed r (Some t) d ts ≡ []
+  none_in [] h = refl
+  none_in (n ∷ ns) h =
+      let both = no_parts (unread_of r None n.place (row_of r d n.schema) n.entry) (unread_listed r None d ns) h in
+      let one = none_of n.place (row_of r d n.schema) n.entry both.0 in
+      let rest = none_in ns both.1 in
+      λ i. one i ++ rest i
+
+  pub none_listed : (ts : List Node) → None ≡ first_kept None (unread_listed r None d ts) → None ≡ first_kept None (unread_listed r (Some t) d ts)
+  none_listed ts h = sym (ap (first_kept None) (none_in ts (nothing (unread_listed r None d ts) h)))
 
 -- the start by its place
 pub refuses_started : (r : Relations) (d : Document) (most : ℕ) (ts : List Node) (start at : Location) (f : FaultD) (old new : ℕ) → start ≡ at → Refuses r d most start old new ts f → Refuses r d most at old new ts f

@@ -1,18 +1,18 @@
 -- Values that a row lists, by its rule and by the tree of its part.
-use Rattle.std.specs.Prelude.{filter, not, Result, Ok, Err, IfOk}
-use Rattle.std.proofs.Common.{◌≡◌, ℕ, List, [], ◌∷◌, map, Bool, true, false, Option, Some, None, option_map, refl, sym, ap, subst, ◌∙◌}
+use Rattle.std.specs.Prelude.{Result, Ok, Err, IfOk}
+use Rattle.std.proofs.Common.{◌≡◌, ℕ, List, [], ◌∷◌, map, Option, Some, None, refl, sym, ap, ◌∙◌}
 use Rattle.json_value.specs.Value.{Value}
 use Rattle.schema_defs.specs.Location.{Location}
 use Rattle.schema_defs.specs.Texts.{Relations}
-use Rattle.schema_defs.specs.Schema.{Document}
+use Rattle.entry_defs.specs.Table.{Table}
 use Rattle.model_defs.specs.Model.{RuleD}
 use Rattle.entry_defs.specs.Entry.{Entry}
 use Rattle.convert_defs.specs.Row.{Row, leaf_row, as_it_is_row, option_row, ruled_row, vec_row, set_row, array_row, tuple_row, map_row, pattern_map_row, struct_row, enum_row, merged_row, refused_row}
-use Rattle.convert_defs.specs.Values.{is_read, inner_of, listed_by, listed_in}
+use Rattle.convert_defs.specs.Values.{inner_of, listed_by, listed_in}
 use Rattle.row_trees.specs.Build.{built, first_of}
-use Rattle.scalar_takes.specs.Leading.{leads_on}
 use Rattle.scalar_takes.specs.Unread.{first_of as first_value}
 use Rattle.convert_trees.specs.Unread.{At, unread_by, unread_of, unread_values, first_before, rule_in}
+use Rattle.convert_trees.specs.Keeping.{ValuesD, with_before}
 
 lists_none : (w : Row) → rule_in w ≡ None → listed_in w ≡ []
 lists_none (ruled_row p rule) e = absurd (cc)
@@ -62,27 +62,21 @@ holds_so (enum_row tag closing ws) rule k name all = absurd (cc)
 holds_so (merged_row ps) rule k name all = absurd (cc)
 holds_so (refused_row c) rule k name all = absurd (cc)
 
-module _ (r : Relations) (d : Document) (depth : ℕ) where
-  by_none : (b : Bool) (e : Entry) → unread_by r d depth b e [] ≡ []
-  by_none true e = refl
-  by_none false e = refl
+module _ (r : Relations) (k : Option Table) where
+  by_none : (k : Option Table) (e : Entry) → unread_by r k e [] ≡ []
+  by_none None e = refl
+  by_none (Some t) e = refl
 
   -- a row without a rule lists nothing
-  pub none_unread : (w : Row) → rule_in w ≡ None → (e : Entry) → unread_values r d depth w e ≡ []
-  none_unread w k e = ap (unread_by r d depth (leads_on (inner_of e)) (inner_of e)) (lists_none w k) ∙ by_none (leads_on (inner_of e)) (inner_of e)
+  pub none_unread : (w : Row) → rule_in w ≡ None → (e : Entry) → unread_values r k w e ≡ []
+  none_unread w h e = ap (unread_by r k (inner_of e)) (lists_none w h) ∙ by_none k (inner_of e)
 
   -- a ruled row lists what its rule does, for the tree of its part
   pub rule_unread : (w : Row) (rule : RuleD) → rule_in w ≡ Some rule → (name : List ℕ) (all : List Entry)
-      → unread_values r d depth w (built name w all) ≡ unread_by r d depth (leads_on (first_of all)) (first_of all) (listed_by rule)
-  rule_unread w rule k name all =
-      ap (unread_by r d depth (leads_on (inner_of (built name w all))) (inner_of (built name w all))) (lists_so w rule k)
-      ∙ ap (λ z. unread_by r d depth (leads_on z) z (listed_by rule)) (holds_so w rule k name all)
-
-  pub not_led : (b : Bool) (e : Entry) (vs : List Value) → b ≡ false → unread_by r d depth b e vs ≡ filter (λ v. not (is_read r d depth e v)) vs
-  not_led b e vs h = ap (λ b. unread_by r d depth b e vs) h
-
-  pub led : (b : Bool) (e : Entry) (vs : List Value) → b ≡ true → unread_by r d depth b e vs ≡ []
-  led b e vs h = ap (λ b. unread_by r d depth b e vs) h
+      → unread_values r k w (built name w all) ≡ unread_by r k (first_of all) (listed_by rule)
+  rule_unread w rule h name all =
+      ap (unread_by r k (inner_of (built name w all))) (lists_so w rule h)
+      ∙ ap (λ z. unread_by r k z (listed_by rule)) (holds_so w rule h name all)
 
 -- ---- the first of them, at its place
 
@@ -94,12 +88,12 @@ no_head : (l : Location) (vs : List Value) (o : Option At) → first_value vs �
 no_head l [] o e = refl
 no_head l (w ∷ vs) o e = absurd (cc)
 
-module _ (r : Relations) (d : Document) (depth : ℕ) (l : Location) (w : Row) (e : Entry) where
-  pub some_kept : (a : At) (o : Option At) (v : Value) → Some v ≡ first_value (unread_values r d depth w e) → a ≡ (l, v) → Some a ≡ first_before (unread_of r d depth l w e) o
-  some_kept a o v k h = at_head l (unread_values r d depth w e) a o v (sym k) h
+module _ (r : Relations) (l : Location) (w : Row) (e : Entry) (v : ValuesD) where
+  pub some_kept : (a : At) (x : Value) → Some x ≡ first_value (unread_values r v.known w e) → a ≡ (l, x) → record { known = v.known; unread = Some a } ≡ with_before (unread_of r v.known l w e) v
+  some_kept a x k h = λ i. record { known = v.known; unread = at_head l (unread_values r v.known w e) a v.unread x (sym k) h i }
 
-  pub none_kept : (o : Option At) → None ≡ first_value (unread_values r d depth w e) → o ≡ first_before (unread_of r d depth l w e) o
-  none_kept o k = no_head l (unread_values r d depth w e) o (sym k)
+  pub none_kept : None ≡ first_value (unread_values r v.known w e) → v ≡ with_before (unread_of r v.known l w e) v
+  none_kept k = λ i. record { known = v.known; unread = no_head l (unread_values r v.known w e) v.unread (sym k) i }
 
 -- ---- what is said on success
 

@@ -12,7 +12,8 @@ use Rattle.schema_tree.specs.Fault.{FaultD}
 use Rattle.convert_trees.specs.Nodes.{entry_at, nodes_at, parts_nodes}
 use Rattle.convert_trees.specs.Places.{IsWalkTo, TellsDepth, no_memory, walked}
 use Rattle.convert_trees.specs.Unread.{At, unread_of, unread_listed, first_kept, first_before_if}
-use Rattle.convert_trees.specs.Keeping.{KeptD}
+use Rattle.entry_defs.specs.Table.{Table}
+use Rattle.convert_trees.specs.Keeping.{KeptD, ValuesD, with_unread}
 use Rattle.convert_trees.specs.Told as told
 use Rattle.convert_trees.specs.Told.{NoAnswer, RefusesBy, unanswered, by_cause, IsTold, IsToldOf, TellsOf, of_depth, of_cause, Tells, Refuses, by_none, by_fault, AreFine, TellsStated, out_of_memory, by_default, of_default}
 use Rattle.stated_laws.specs.Stated.{behind, stated_steps, stated_of, stated_in}
@@ -34,6 +35,12 @@ first_of_row (Some a) us bs had e = ap (λ b. first_before_if b us (Some a)) e
 first_of_row None [] bs had e = ap (λ b. first_before_if b [] (first_kept None bs)) e
 first_of_row None (a ∷ us) bs had e = ap (λ b. first_before_if b (a ∷ us) (first_kept None bs)) e
 
+with_none : (v : ValuesD) → with_unread [] v ≡ v
+with_none v = λ i. record { known = v.known; unread = first_none v.unread i }
+
+with_both : (v : ValuesD) (us bs : List At) → with_unread bs (with_unread us v) ≡ with_unread (us ++ bs) v
+with_both v us bs = λ i. record { known = v.known; unread = first_both v.unread us bs i }
+
 module _ (r : Relations) (d : Document) (most : ℕ) where
   -- ---- faults, notes and unread values of lists
 
@@ -49,11 +56,11 @@ module _ (r : Relations) (d : Document) (most : ℕ) where
       ap (λ ns. placed a.place (notes_at r d a.schema) ++ ns) (notes_of_both xs bs)
       ∙ sym (append_assoc (placed a.place (notes_at r d a.schema)) (notes_in r d xs) (notes_in r d bs))
 
-  unread_of_both : (xs bs : List Node) → unread_listed r d most (xs ++ bs) ≡ unread_listed r d most xs ++ unread_listed r d most bs
-  unread_of_both [] bs = refl
-  unread_of_both (a ∷ xs) bs =
-      ap (λ us. unread_of r d most a.place (row_of r d a.schema) a.entry ++ us) (unread_of_both xs bs)
-      ∙ sym (append_assoc (unread_of r d most a.place (row_of r d a.schema) a.entry) (unread_listed r d most xs) (unread_listed r d most bs))
+  unread_of_both : (k : Option Table) (xs bs : List Node) → unread_listed r k d (xs ++ bs) ≡ unread_listed r k d xs ++ unread_listed r k d bs
+  unread_of_both k [] bs = refl
+  unread_of_both k (a ∷ xs) bs =
+      ap (λ us. unread_of r k a.place (row_of r d a.schema) a.entry ++ us) (unread_of_both k xs bs)
+      ∙ sym (append_assoc (unread_of r k a.place (row_of r d a.schema) a.entry) (unread_listed r k d xs) (unread_listed r k d bs))
 
   stated_of_both : (xs bs : List Node) → stated_in r d (xs ++ bs) ≡ stated_in r d xs ++ stated_in r d bs
   stated_of_both [] bs = refl
@@ -73,13 +80,13 @@ module _ (r : Relations) (d : Document) (most : ℕ) where
   -- ---- told
 
   pub told_none : (k : KeptD) → IsTold r d most [] k k
-  told_none k = record { fine = none_fine; notes = sym (append-nil k.notes); unread = sym (first_none k.unread) }
+  told_none k = record { fine = none_fine; notes = sym (append-nil k.notes); values = sym (with_none k.values) }
 
   pub told_both : (xs bs : List Node) (k l m : KeptD) → IsTold r d most xs k l → IsTold r d most bs l m → IsTold r d most (xs ++ bs) k m
   told_both xs bs k l m x y = record {
     fine = both_fine xs bs x.fine y.fine;
     notes = y.notes ∙ ap (λ ns. ns ++ notes_in r d bs) x.notes ∙ append_assoc k.notes (notes_in r d xs) (notes_in r d bs) ∙ ap (λ ns. k.notes ++ ns) (sym (notes_of_both xs bs));
-    unread = y.unread ∙ ap (λ o. first_kept o (unread_listed r d most bs)) x.unread ∙ first_both k.unread (unread_listed r d most xs) (unread_listed r d most bs) ∙ ap (first_kept k.unread) (sym (unread_of_both xs bs));
+    values = y.values ∙ ap (λ v. with_unread (unread_listed r v.known d bs) v) x.values ∙ with_both k.values (unread_listed r k.values.known d xs) (unread_listed r k.values.known d bs) ∙ ap (λ us. with_unread us k.values) (sym (unread_of_both k.values.known xs bs));
   }
 
   module _ (start : Location) (f : FaultD) where
@@ -196,12 +203,12 @@ module _ (r : Relations) (d : Document) (most : ℕ) where
         refuses_second start f old new own_node (branch_nodes ++ part_list) (own_fine e g)
         (refuses_second start f old new branch_nodes part_list (branches_fine b) k)
 
-    pub told_whole : (j k o : KeptD) → finding_faults r d most (finding_of r d s) ≡ [] → stated_steps (row_of r d s) ≡ [] → branch_nodes ≡ [] → k.notes ≡ j.notes ++ placed l (notes_at r d s) → k.unread ≡ j.unread
+    pub told_whole : (j k o : KeptD) → finding_faults r d most (finding_of r d s) ≡ [] → stated_steps (row_of r d s) ≡ [] → branch_nodes ≡ [] → k.notes ≡ j.notes ++ placed l (notes_at r d s) → k.values ≡ j.values
         → IsToldOf r d most l (row_of r d s) (entry_at r d n (suc m) h s) part_list k o → IsTold r d most (nodes_at r d n (suc m) h l s) j o
     told_whole j k o e w b g u t = record {
       fine = both_fine own_node (branch_nodes ++ part_list) (own_fine e w) (both_fine branch_nodes part_list (branches_fine b) t.fine);
       notes = t.notes ∙ ap (λ ns. ns ++ notes_in r d part_list) g ∙ append_assoc j.notes (placed l (notes_at r d s)) (notes_in r d part_list)
           ∙ ap (λ ts. j.notes ++ (placed l (notes_at r d s) ++ notes_in r d (ts ++ part_list))) (sym b);
-      unread = t.unread ∙ ap (λ o. first_kept o (unread_of r d most l (row_of r d s) (entry_at r d n (suc m) h s) ++ unread_listed r d most part_list)) u
-          ∙ ap (λ ts. first_kept j.unread (unread_of r d most l (row_of r d s) (entry_at r d n (suc m) h s) ++ unread_listed r d most (ts ++ part_list))) (sym b);
+      values = t.values ∙ ap (λ v. with_unread (unread_of r v.known l (row_of r d s) (entry_at r d n (suc m) h s) ++ unread_listed r v.known d part_list) v) u
+          ∙ ap (λ ts. with_unread (unread_of r j.values.known l (row_of r d s) (entry_at r d n (suc m) h s) ++ unread_listed r j.values.known d (ts ++ part_list)) j.values) (sym b);
     }

@@ -19,8 +19,8 @@ use Rattle.schema_tree.specs.declared.fault.UnsupportedKind.{UnsupportedKind}
 use Rattle.schema_tree.specs.declared.fault.UnsupportedKind.TheVariants as kind
 use Rattle.schema_tree.specs.Fault.{FaultD, memory, depth, places, bad_value, invalid_schema, unsupported, texts}
 use Rattle.convert_trees.specs.Places.{IsWalkTo}
-use Rattle.convert_trees.specs.Unread.{first_kept, unread_of, unread_listed}
-use Rattle.convert_trees.specs.Keeping.{KeptD}
+use Rattle.convert_trees.specs.Unread.{unread_of, unread_listed}
+use Rattle.convert_trees.specs.Keeping.{KeptD, with_unread}
 use Rattle.stated_laws.specs.Stated.{stated_of, stated_in}
 
 -- ---- the fault that is told for a cause
@@ -110,13 +110,13 @@ pub record AreFine (r : Relations) (d : Document) (most : ℕ) (ts : List Node) 
 pub record IsTold (r : Relations) (d : Document) (most : ℕ) (ts : List Node) (old new : KeptD) : Type 0 where
   pub fine : AreFine r d most ts
   pub notes : new.notes ≡ old.notes ++ notes_in r d ts
-  pub unread : new.unread ≡ first_kept old.unread (unread_listed r d most ts)
+  pub values : new.values ≡ with_unread (unread_listed r old.values.known d ts) old.values
 
 -- the same of the parts of a schema, with the values that its own row lists
 pub record IsToldOf (r : Relations) (d : Document) (most : ℕ) (l : Location) (w : Row) (e : Entry) (ts : List Node) (old new : KeptD) : Type 0 where
   pub fine : AreFine r d most ts
   pub notes : new.notes ≡ old.notes ++ notes_in r d ts
-  pub unread : new.unread ≡ first_kept old.unread (unread_of r d most l w e ++ unread_listed r d most ts)
+  pub values : new.values ≡ with_unread (unread_of r old.values.known l w e ++ unread_listed r old.values.known d ts) old.values
 
 -- the first fault of a schema of the tree, or its first stated default, which isn't checked yet
 pub data TellsOf (r : Relations) (d : Document) (most : ℕ) (start : Location) (t : Node) (f : FaultD) : Type 0 where

@@ -1,41 +1,42 @@
--- Listed values that what is converted doesn't read: those that Allow and Deny list, with the place of their schema. What stands under a reference or an untagged enum
--- isn't looked at.
-use Rattle.std.specs.Prelude.{ℕ, not, filter, map, List, [], ◌∷◌, ◌++◌, Bool, true, false, Option, Some, None}
+-- Listed values that what is converted doesn't read: those that Allow and Deny list, with the place of their schema.
+use Rattle.std.specs.Prelude.{ℕ, map, List, [], ◌∷◌, ◌++◌, Bool, true, false, Option, Some, None}
 use Rattle.json_value.specs.Value.{Value}
 use Rattle.schema_defs.specs.Location.{Location}
 use Rattle.schema_defs.specs.Texts.{Relations}
 use Rattle.schema_defs.specs.Schema.{Document}
 use Rattle.entry_defs.specs.Entry.{Entry}
+use Rattle.entry_defs.specs.Table.{Table}
 use Rattle.model_defs.specs.Model.{RuleD}
-use Rattle.scalar_takes.specs.Leading.{leads_on}
+use Rattle.scalar_takes.specs.Unread.{unread}
 use Rattle.convert_defs.specs.Row.{Row, leaf_row, as_it_is_row, option_row, ruled_row, vec_row, set_row, array_row, tuple_row, map_row, pattern_map_row, struct_row, enum_row, merged_row, refused_row}
 use Rattle.convert_defs.specs.Table.{row_of}
-use Rattle.convert_defs.specs.Convert.{Node, document_tree}
-use Rattle.convert_defs.specs.Values.{is_read, inner_of, listed_in}
+use Rattle.convert_defs.specs.Convert.{Node, document_tree, table_of}
+use Rattle.convert_defs.specs.Values.{inner_of, listed_in}
 
 abbrev pub At : Type 0
 At = Location × Value
 
-module _ (r : Relations) (d : Document) (depth : ℕ) where
-  -- those that the entry doesn't take; where a reference or an untagged enum is asked of scalars, none is told
-  abbrev pub unread_by : Bool → Entry → List Value → List Value
-  unread_by true e vs = []
-  unread_by false e vs = filter (λ v. not (is_read r d depth e v)) vs
+module _ (r : Relations) where
+  -- those that the entry doesn't take by the table; all, where no table is known yet
+  abbrev pub unread_by : Option Table → Entry → List Value → List Value
+  unread_by None e vs = vs
+  unread_by (Some t) e vs = unread t r e vs
 
-  -- of one schema, by its row and its entry
-  abbrev pub unread_values : Row → Entry → List Value
-  unread_values w e = unread_by (leads_on (inner_of e)) (inner_of e) (listed_in w)
+  module _ (k : Option Table) where
+    -- of one schema, by its row and its entry
+    abbrev pub unread_values : Row → Entry → List Value
+    unread_values w e = unread_by k (inner_of e) (listed_in w)
 
-  abbrev pub unread_of : Location → Row → Entry → List At
-  unread_of l w e = map (λ v. (l, v)) (unread_values w e)
+    abbrev pub unread_of : Location → Row → Entry → List At
+    unread_of l w e = map (λ v. (l, v)) (unread_values w e)
 
-  abbrev pub unread_listed : List Node → List At
-  unread_listed [] = []
-  unread_listed (t ∷ ts) = unread_of t.place (row_of r d t.schema) t.entry ++ unread_listed ts
+    abbrev pub unread_listed : Document → List Node → List At
+    unread_listed d [] = []
+    unread_listed d (t ∷ ts) = unread_of t.place (row_of r d t.schema) t.entry ++ unread_listed d ts
 
   -- of the document, in the order of conversion
-  abbrev pub unread_in_document : List At
-  unread_in_document = unread_listed (document_tree r d depth)
+  abbrev pub unread_in_document : Document → ℕ → List At
+  unread_in_document d depth = unread_listed (Some (table_of r d depth)) d (document_tree r d depth)
 
 -- ---- the first of them
 

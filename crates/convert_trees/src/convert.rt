@@ -15,9 +15,9 @@ ghost use Rattle.row_trees.specs.Build.{built};
 ghost use Rattle.convert_trees.specs.Listed.{listed_view};
 ghost use Rattle.convert_trees.specs.Nodes.{converted, entry_at, nodes_at, part_nodes, parts_nodes};
 ghost use Rattle.convert_trees.specs.Places.{place_at, step_count, trail_count, TellsDepth};
-ghost use Rattle.convert_trees.specs.Keeping.{kept_view};
+ghost use Rattle.convert_trees.specs.Keeping.{kept_view, with_before_if};
 ghost use Rattle.convert_trees.specs.Told.{IsTold, IsToldOf, NoAnswer, Refuses};
-ghost use Rattle.convert_trees.specs.Unread.{first_before_if, unread_of};
+ghost use Rattle.convert_trees.specs.Unread.{unread_of};
 ghost use Rattle.stated_laws.specs.Stated.{stated_steps};
 
 use crate::faults::{text_fault, too_deep};
@@ -90,10 +90,10 @@ fn keep_notes<'d>(
     scope: &Scope<'d, '_>,
     trail: &Vec<Steps<'d>>,
     finding: &Finding<'d>,
-    kept: &mut Kept<'d>,
+    kept: &mut Kept<'d, '_, '_>,
 ) -> Result<(), Fault>
     ensures notes { OnOk result ((kept_view kept.new).notes ≡ (kept_view kept.old).notes ++ placed (place_at scope.now.start.now trail.now.items) (map note_view finding.now.notes.items)) }
-    ensures unread { OnOk result ((kept_view kept.new).unread ≡ (kept_view kept.old).unread) }
+    ensures values { OnOk result ((kept_view kept.new).values ≡ (kept_view kept.old).values) }
     ensures memory { IfErr result (λ f. fault_view f ≡ memory) }
 {
     match push_notes(scope, trail, &finding.notes, &mut kept.notes) {
@@ -105,7 +105,7 @@ fn keep_notes<'d>(
 // The notes are added, where each branch is within the steps that are left.
 fn noted<'d>(
     scope: &Scope<'d, '_>,
-    kept: &mut Kept<'d>,
+    kept: &mut Kept<'d, '_, '_>,
     trail: &Vec<Steps<'d>>,
     left: u32,
     finding: &Finding<'d>,
@@ -113,7 +113,7 @@ fn noted<'d>(
     requires { trail_count trail.now.items + left ≡ scope.now.depth }
     ensures branches { OnOk result (cut_branches left (place_at scope.now.start.now trail.now.items) (map branch_view finding.now.branches.items) ≡ []) }
     ensures notes { OnOk result ((kept_view kept.new).notes ≡ (kept_view kept.old).notes ++ placed (place_at scope.now.start.now trail.now.items) (map note_view finding.now.notes.items)) }
-    ensures unread { OnOk result ((kept_view kept.new).unread ≡ (kept_view kept.old).unread) }
+    ensures values { OnOk result ((kept_view kept.new).values ≡ (kept_view kept.old).values) }
     ensures refused { IfErr result (λ f. (r : Relations) (d : DocumentOf) (old : ℕ) (new : ℕ) → Refuses r d scope.now.depth scope.now.start.now old new (cut_branches left (place_at scope.now.start.now trail.now.items) (map branch_view finding.now.branches.items)) (fault_view f)) }
 {
     keep_notes(scope, trail, finding, kept)?;
@@ -144,7 +144,7 @@ fn tree_of_row<'d, T: Texts>(
 fn finished<'d, T: Texts>(
     scope: &Scope<'d, '_>,
     texts: &mut T,
-    kept: &mut Kept<'d>,
+    kept: &mut Kept<'d, '_, '_>,
     trail: &Vec<Steps<'d>>,
     had: bool,
     name: &'d str,
@@ -153,7 +153,7 @@ fn finished<'d, T: Texts>(
 ) -> Result<Tree<'d>, Fault>
     ensures answer { IfOk result (λ t. tree_view t ≡ built name.now (row_view (T.relations texts.old) row.now) (map tree_view trees.entry.items)) }
     ensures notes { OnOk result ((kept_view kept.new).notes ≡ (kept_view kept.old).notes) }
-    ensures unread { IfOk result (λ t. (d : DocumentOf) (depth : ℕ) → (kept_view kept.new).unread ≡ first_before_if had (unread_of (T.relations texts.old) d depth (place_at scope.now.start.now trail.now.items) (row_view (T.relations texts.old) row.now) (tree_view t)) (kept_view kept.old).unread) }
+    ensures values { IfOk result (λ t. (kept_view kept.new).values ≡ with_before_if had (unread_of (T.relations texts.old) (kept_view kept.old).values.known (place_at scope.now.start.now trail.now.items) (row_view (T.relations texts.old) row.now) (tree_view t)) (kept_view kept.old).values) }
     ensures refused { IfErr result (λ f. NoAnswer (T.faults texts.old) (T.faults texts.new) (fault_view f)) }
     ensures keeps { T.relations texts.new ≡ T.relations texts.old }
     ensures counts { T.faults texts.old ≤ T.faults texts.new }
@@ -178,7 +178,7 @@ fn push_tree<'d>(trees: &mut VecDeque<Tree<'d>>, tree: Tree<'d>) -> Result<(), F
 fn checked<'d, T: Texts>(
     scope: &Scope<'d, '_>,
     texts: &mut T,
-    kept: &mut Kept<'d>,
+    kept: &mut Kept<'d, '_, '_>,
     trail: &Vec<Steps<'d>>,
     left: u32,
     source: &Source<'d>,
@@ -189,7 +189,7 @@ fn checked<'d, T: Texts>(
     ensures unstated { IfOk result (λ f. stated_steps (finding_view (T.relations texts.old) f).row ≡ []) }
     ensures branches { IfOk result (λ f. cut_branches left (place_at scope.now.start.now trail.now.items) (finding_view (T.relations texts.old) f).branches ≡ []) }
     ensures notes { IfOk result (λ f. (kept_view kept.new).notes ≡ (kept_view kept.old).notes ++ placed (place_at scope.now.start.now trail.now.items) (finding_view (T.relations texts.old) f).notes) }
-    ensures unread { OnOk result ((kept_view kept.new).unread ≡ (kept_view kept.old).unread) }
+    ensures values { OnOk result ((kept_view kept.new).values ≡ (kept_view kept.old).values) }
     ensures refused { IfErr result (λ f. (made : ℕ) (h : Handed) → made ≢ 0 → Refuses (T.relations texts.old) (document_seen scope.now.document.now) scope.now.depth scope.now.start.now (T.faults texts.old) (T.faults texts.new) (nodes_at (T.relations texts.old) (document_seen scope.now.document.now) left made h (place_at scope.now.start.now trail.now.items) (source_view source.now)) (fault_view f)) }
     ensures keeps { T.relations texts.new ≡ T.relations texts.old }
     ensures counts { T.faults texts.old ≤ T.faults texts.new }
@@ -208,7 +208,7 @@ fn checked<'d, T: Texts>(
 pub fn convert<'d, T: Texts>(
     scope: &Scope<'d, '_>,
     texts: &mut T,
-    kept: &mut Kept<'d>,
+    kept: &mut Kept<'d, '_, '_>,
     trail: &Vec<Steps<'d>>,
     left: u32,
     made: u32,
@@ -245,7 +245,7 @@ pub fn convert<'d, T: Texts>(
 fn convert_found<'d, T: Texts>(
     scope: &Scope<'d, '_>,
     texts: &mut T,
-    kept: &mut Kept<'d>,
+    kept: &mut Kept<'d, '_, '_>,
     trail: &Vec<Steps<'d>>,
     left: u32,
     made: u32,
@@ -260,7 +260,7 @@ fn convert_found<'d, T: Texts>(
     ensures keeps { T.relations texts.new ≡ T.relations texts.old }
     ensures counts { T.faults texts.old ≤ T.faults texts.new }
 {
-    let had = kept.unread.is_some();
+    let had = kept.values.unread.is_some();
     let trees = convert_row(scope, texts, kept, trail, left, made, handed, &finding.row)?;
     let name = named(handed, source);
     let tree = finished(scope, texts, kept, trail, had, name, &finding.row, trees)?;
@@ -271,7 +271,7 @@ fn convert_found<'d, T: Texts>(
 fn convert_row<'d, T: Texts>(
     scope: &Scope<'d, '_>,
     texts: &mut T,
-    kept: &mut Kept<'d>,
+    kept: &mut Kept<'d, '_, '_>,
     trail: &Vec<Steps<'d>>,
     left: u32,
     made: u32,
@@ -294,7 +294,7 @@ fn convert_row<'d, T: Texts>(
 fn convert_parts<'d, T: Texts>(
     scope: &Scope<'d, '_>,
     texts: &mut T,
-    kept: &mut Kept<'d>,
+    kept: &mut Kept<'d, '_, '_>,
     trail: &Vec<Steps<'d>>,
     left: u32,
     made: u32,
@@ -321,7 +321,7 @@ fn convert_parts<'d, T: Texts>(
 fn convert_part<'d, T: Texts>(
     scope: &Scope<'d, '_>,
     texts: &mut T,
-    kept: &mut Kept<'d>,
+    kept: &mut Kept<'d, '_, '_>,
     trail: &Vec<Steps<'d>>,
     left: u32,
     made: u32,
@@ -352,7 +352,7 @@ fn convert_part<'d, T: Texts>(
 fn one_on<'d, T: Texts>(
     scope: &Scope<'d, '_>,
     texts: &mut T,
-    kept: &mut Kept<'d>,
+    kept: &mut Kept<'d, '_, '_>,
     trail: &Vec<Steps<'d>>,
     steps: Steps<'d>,
     left: u32,
@@ -380,7 +380,7 @@ fn one_on<'d, T: Texts>(
 fn two_on<'d, T: Texts>(
     scope: &Scope<'d, '_>,
     texts: &mut T,
-    kept: &mut Kept<'d>,
+    kept: &mut Kept<'d, '_, '_>,
     trail: &Vec<Steps<'d>>,
     steps: Steps<'d>,
     left: u32,
@@ -425,7 +425,7 @@ fn longer_trail<'d>(
 fn enter<'d, T: Texts>(
     scope: &Scope<'d, '_>,
     texts: &mut T,
-    kept: &mut Kept<'d>,
+    kept: &mut Kept<'d, '_, '_>,
     trail: &Vec<Steps<'d>>,
     left: u32,
     handed: Option<&'d str>,

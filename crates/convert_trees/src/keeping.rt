@@ -1,4 +1,5 @@
 //! What conversion keeps beside trees.
+use entry_trees::TreeTable;
 use note_order::PlacedNote;
 use schema_types::Location;
 use serde_json::Value;
@@ -10,9 +11,17 @@ pub struct Unread<'d> {
     pub value: &'d Value,
 }
 
-/// The notes, and the first listed value that isn't read, in the order of conversion.
+/// The table by which listed values are asked, and the first of them that isn't read, in the order of conversion. Without a table it is the
+/// first that is listed.
 #[derive(Drop)]
-pub struct Kept<'d> {
-    pub notes: Vec<PlacedNote>,
+pub struct Values<'d, 't, 'k> {
+    pub known: Option<&'t TreeTable<'k>>,
     pub unread: Option<Unread<'d>>,
+}
+
+/// The notes, and what is kept of listed values.
+#[derive(Drop)]
+pub struct Kept<'d, 't, 'k> {
+    pub notes: Vec<PlacedNote>,
+    pub values: Values<'d, 't, 'k>,
 }

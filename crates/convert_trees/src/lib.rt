@@ -14,7 +14,7 @@ mod stated;
 mod table;
 mod unread;
 
-pub use keeping::{Kept, Unread};
+pub use keeping::{Kept, Unread, Values};
 pub use names::root_name;
 pub use note_order::PlacedNote;
-pub use table::{Converted, definition_targets, table_of, tree_at};
+pub use table::{Converted, definition_targets, nothing_kept, root_tree, table_of, tree_at};

@@ -13,11 +13,11 @@ ghost use Rattle.note_order.specs.Notes.{notes_view};
 ghost use Rattle.convert_trees.specs.Keeping.{kept_view, unread_view};
 ghost use Rattle.convert_trees.specs.Tables.{is_under_defs, root_targets_of, root_use_of};
 ghost use Rattle.convert_trees.specs.Told.{IsTold, Refuses, RefusesAll};
-ghost use Rattle.convert_trees.specs.Unread.{first_kept, unread_in_document};
+ghost use Rattle.convert_trees.specs.Unread.{first_kept, unread_in_document, unread_listed};
 ghost use Rattle.stated_laws.specs.Stated.{stated_in_document};
 
 use crate::convert::{MOST_MADE, convert};
-use crate::keeping::{Kept, Unread};
+use crate::keeping::{Kept, Unread, Values};
 use crate::names::root_name;
 use crate::scope::Scope;
 use entry_trees::{Atom, Target, Tree, TreeTable};
@@ -54,18 +54,85 @@ pub fn table_of<'d, T: Texts>(
     ensures keeps { T.relations texts.new ≡ T.relations texts.old }
     ensures counts { T.faults texts.old ≤ T.faults texts.new }
 {
-    let mut kept = Kept {
-        notes: Vec::new(alloc),
-        unread: None,
-    };
-    let targets = definition_targets(alloc, document, depth, texts, &mut kept)?;
-    let root = root_tree(alloc, document, depth, texts, &mut kept)?;
-    let table = rooted(alloc, document, targets, root)?;
+    let mut kept = nothing_kept(alloc, None);
+    let table = table_with(alloc, document, depth, texts, &mut kept)?;
+    let unread = first_unread(alloc, document, depth, texts, &table, &kept.values.unread)?;
     Ok(Converted {
         table,
         notes: kept.notes,
-        unread: kept.unread,
+        unread,
     })
+}
+
+/// Nothing is kept yet. Listed values are asked by the table, and where none is known all count as unread. It takes no memory.
+pub fn nothing_kept<'d, 't, 'k>(alloc: Global, known: Option<&'t TreeTable<'k>>) -> Kept<'d, 't, 'k>
+    ensures { kept_view result ≡ record { notes = []; values = record { known = option_map (λ t. table_view t.now) known.entry; unread = None } } }
+{
+    Kept {
+        notes: Vec::new(alloc),
+        values: Values {
+            known,
+            unread: None,
+        },
+    }
+}
+
+// The same, with what isn't kept in the table added to what was kept.
+fn table_with<'d, T: Texts>(
+    alloc: Global,
+    document: &'d Document,
+    depth: u32,
+    texts: &mut T,
+    kept: &mut Kept<'d, '_, '_>,
+) -> Result<TreeTable<'d>, Fault>
+    ensures table { IfOk result (λ t. table_view t ≡ table_of_document (T.relations texts.old) (document_seen document.now) depth) }
+    ensures told { OnOk result (IsTold (T.relations texts.old) (document_seen document.now) depth (document_tree (T.relations texts.old) (document_seen document.now) depth) (kept_view kept.old) (kept_view kept.new)) }
+    ensures refused { IfErr result (λ f. RefusesAll (T.relations texts.old) (document_seen document.now) depth (T.faults texts.old) (T.faults texts.new) (document_tree (T.relations texts.old) (document_seen document.now) depth) (fault_view f)) }
+    ensures keeps { T.relations texts.new ≡ T.relations texts.old }
+    ensures counts { T.faults texts.old ≤ T.faults texts.new }
+{
+    let targets = definition_targets(alloc, document, depth, texts, kept)?;
+    let root = root_tree(alloc, document, depth, texts, kept)?;
+    let table = rooted(alloc, document, targets, root)?;
+    Ok(table)
+}
+
+// The first listed value that isn't read by the table, which takes another conversion where some are listed.
+fn first_unread<'d, T: Texts>(
+    alloc: Global,
+    document: &'d Document,
+    depth: u32,
+    texts: &mut T,
+    table: &TreeTable<'d>,
+    listed: &Option<Unread<'d>>,
+) -> Result<Option<Unread<'d>>, Fault>
+    ensures unread { IfOk result (λ o. option_map unread_view listed.now ≡ first_kept None (unread_listed (T.relations texts.old) None (document_seen document.now) (document_tree (T.relations texts.old) (document_seen document.now) depth))
+        → option_map unread_view o ≡ first_kept None (unread_listed (T.relations texts.old) (Some (table_view table.now)) (document_seen document.now) (document_tree (T.relations texts.old) (document_seen document.now) depth))) }
+    ensures refused { IfErr result (λ f. RefusesAll (T.relations texts.old) (document_seen document.now) depth (T.faults texts.old) (T.faults texts.new) (document_tree (T.relations texts.old) (document_seen document.now) depth) (fault_view f)) }
+    ensures keeps { T.relations texts.new ≡ T.relations texts.old }
+    ensures counts { T.faults texts.old ≤ T.faults texts.new }
+{
+    match listed {
+        Some(_) => unread_by_table(alloc, document, depth, texts, table),
+        None => Ok(None),
+    }
+}
+
+fn unread_by_table<'d, T: Texts>(
+    alloc: Global,
+    document: &'d Document,
+    depth: u32,
+    texts: &mut T,
+    table: &TreeTable<'d>,
+) -> Result<Option<Unread<'d>>, Fault>
+    ensures unread { IfOk result (λ o. option_map unread_view o ≡ first_kept None (unread_listed (T.relations texts.old) (Some (table_view table.now)) (document_seen document.now) (document_tree (T.relations texts.old) (document_seen document.now) depth))) }
+    ensures refused { IfErr result (λ f. RefusesAll (T.relations texts.old) (document_seen document.now) depth (T.faults texts.old) (T.faults texts.new) (document_tree (T.relations texts.old) (document_seen document.now) depth) (fault_view f)) }
+    ensures keeps { T.relations texts.new ≡ T.relations texts.old }
+    ensures counts { T.faults texts.old ≤ T.faults texts.new }
+{
+    let mut kept = nothing_kept(alloc, Some(table));
+    table_with(alloc, document, depth, texts, &mut kept)?;
+    Ok(kept.values.unread)
 }
 
 fn keyword_of(under_defs: bool) -> &'static str
@@ -120,7 +187,7 @@ pub fn tree_at<'d, T: Texts>(
     document: &'d Document,
     depth: u32,
     texts: &mut T,
-    kept: &mut Kept<'d>,
+    kept: &mut Kept<'d, '_, '_>,
     start: &Location,
     name: Option<&'d str>,
     schema: &'d Schema,
@@ -148,7 +215,7 @@ fn definition_item<'d, T: Texts>(
     document: &'d Document,
     depth: u32,
     texts: &mut T,
-    kept: &mut Kept<'d>,
+    kept: &mut Kept<'d, '_, '_>,
     name: &'d str,
     schema: &'d Schema,
 ) -> Result<Tree<'d>, Fault>
@@ -179,7 +246,7 @@ pub fn definition_targets<'d, T: Texts>(
     document: &'d Document,
     depth: u32,
     texts: &mut T,
-    kept: &mut Kept<'d>,
+    kept: &mut Kept<'d, '_, '_>,
 ) -> Result<Vec<(Target, Tree<'d>)>, Fault>
     ensures targets { IfOk result (λ ts. map target_entry ts.items ≡ map (definition_target (T.relations texts.old) (document_seen document.now) depth) (document_seen document.now).definitions) }
     ensures told { OnOk result (IsTold (T.relations texts.old) (document_seen document.now) depth (definition_trees (T.relations texts.old) (document_seen document.now) depth (document_seen document.now).definitions) (kept_view kept.old) (kept_view kept.new)) }
@@ -226,12 +293,13 @@ fn push_definition<'d>(
     }
 }
 
-fn root_tree<'d, T: Texts>(
+/// What the root is converted to, with what isn't kept in it added to what was kept.
+pub fn root_tree<'d, T: Texts>(
     alloc: Global,
     document: &'d Document,
     depth: u32,
     texts: &mut T,
-    kept: &mut Kept<'d>,
+    kept: &mut Kept<'d, '_, '_>,
 ) -> Result<Tree<'d>, Fault>
     ensures entry { IfOk result (λ t. tree_view t ≡ root_entry (T.relations texts.old) (document_seen document.now) depth) }
     ensures told { OnOk result (IsTold (T.relations texts.old) (document_seen document.now) depth (root_tree_of (T.relations texts.old) (document_seen document.now) depth) (kept_view kept.old) (kept_view kept.new)) }

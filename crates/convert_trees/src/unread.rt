@@ -1,27 +1,25 @@
 //! Listed values that aren't read.
-ghost use Rattle.std.specs.Prelude.{◌≡◌, ◌≤◌, ℕ, List, IfErr, IfOk, OnOk, map, option_map};
+ghost use Rattle.std.specs.Prelude.{◌≡◌, ◌≤◌, ℕ, List, Some, IfErr, IfOk, OnOk, map, option_map};
 ghost use Rattle.schema_defs.specs.Texts.{Relations};
-ghost use Rattle.schema_defs.specs.Schema.{Document as DocumentOf};
 ghost use Rattle.schema_types.specs.View.{kept_view as value_kept};
 ghost use Rattle.schema_tree.specs.Fault.{fault_view, memory};
 ghost use Rattle.convert_defs.specs.Values.{listed_by};
 ghost use Rattle.row_types.specs.View.{row_view, rule_view};
-ghost use Rattle.entry_trees.specs.View.{tree_view};
+ghost use Rattle.entry_trees.specs.View.{table_view, tree_view};
 ghost use Rattle.row_trees.specs.Build.{built, first_of};
-ghost use Rattle.convert_trees.specs.Keeping.{kept_view};
+ghost use Rattle.convert_trees.specs.Keeping.{kept_view, values_view, with_before, with_before_if};
 ghost use Rattle.convert_trees.specs.Places.{place_at};
 ghost use Rattle.convert_trees.specs.Told.{NoAnswer};
-ghost use Rattle.scalar_takes.specs.Leading.{leads_on as leads_on_of};
 ghost use Rattle.scalar_takes.specs.Unread.{first_of as first_value};
-ghost use Rattle.convert_trees.specs.Unread.{first_before, first_before_if, rule_in, unread_by as unread_by_entry, unread_of, unread_values};
+ghost use Rattle.convert_trees.specs.Unread.{rule_in, unread_by as unread_by_entry, unread_of, unread_values};
 
 use crate::faults::text_fault;
-use crate::keeping::{Kept, Unread};
+use crate::keeping::{Kept, Unread, Values};
 use crate::places::location_of;
 use crate::scope::Scope;
-use entry_trees::Tree;
+use entry_trees::{Tree, TreeTable};
 use row_types::{Row, RowRule, Steps};
-use scalar_takes::{first_unread_by, leads_on};
+use scalar_takes::{first_listed_by, first_unread_by};
 use schema_tree::{Fault, Texts};
 use schema_types::Location;
 use serde_json::Value;
@@ -60,25 +58,43 @@ fn place_of(scope: &Scope<'_, '_>, trail: &Vec<Steps<'_>>) -> Result<Location, F
     }
 }
 
-// The first value that a rule lists and the tree doesn't read; none where the tree leads on.
-fn unread_in<'d, T: Texts>(
+// The first value that a rule lists and the tree doesn't read by the table.
+fn unread_in_table<'d, T: Texts>(
     scope: &Scope<'d, '_>,
     texts: &mut T,
     trail: &Vec<Steps<'d>>,
+    table: &TreeTable<'_>,
     rule: RowRule<'d>,
     tree: &Tree<'d>,
 ) -> Result<Option<&'d Value>, Fault>
-    ensures found { IfOk result (λ o. (d : DocumentOf) (depth : ℕ) → option_map (λ v. value_kept v.now) o ≡ first_value (unread_by_entry (T.relations texts.old) d depth (leads_on_of (tree_view tree.now)) (tree_view tree.now) (listed_by (rule_view rule.entry)))) }
+    ensures found { IfOk result (λ o. option_map (λ v. value_kept v.now) o ≡ first_value (unread_by_entry (T.relations texts.old) (Some (table_view table.now)) (tree_view tree.now) (listed_by (rule_view rule.entry)))) }
     ensures refused { IfErr result (λ f. NoAnswer (T.faults texts.old) (T.faults texts.new) (fault_view f)) }
     ensures keeps { T.relations texts.new ≡ T.relations texts.old }
     ensures counts { T.faults texts.old ≤ T.faults texts.new }
 {
-    if leads_on(tree) {
-        return Ok(None);
-    }
-    match first_unread_by(tree, rule, texts) {
+    match first_unread_by(table, tree, rule, texts) {
         Ok(value) => Ok(value),
         Err(fault) => Err(text_fault(scope, trail, fault)),
+    }
+}
+
+// The same by what is known.
+fn unread_in<'d, T: Texts>(
+    scope: &Scope<'d, '_>,
+    texts: &mut T,
+    trail: &Vec<Steps<'d>>,
+    values: &Values<'d, '_, '_>,
+    rule: RowRule<'d>,
+    tree: &Tree<'d>,
+) -> Result<Option<&'d Value>, Fault>
+    ensures found { IfOk result (λ o. option_map (λ v. value_kept v.now) o ≡ first_value (unread_by_entry (T.relations texts.old) (values_view values.now).known (tree_view tree.now) (listed_by (rule_view rule.entry)))) }
+    ensures refused { IfErr result (λ f. NoAnswer (T.faults texts.old) (T.faults texts.new) (fault_view f)) }
+    ensures keeps { T.relations texts.new ≡ T.relations texts.old }
+    ensures counts { T.faults texts.old ≤ T.faults texts.new }
+{
+    match values.known {
+        Some(table) => unread_in_table(scope, texts, trail, table, rule, tree),
+        None => Ok(first_listed_by(rule)),
     }
 }
 
@@ -87,16 +103,17 @@ fn unread_by<'d, T: Texts>(
     scope: &Scope<'d, '_>,
     texts: &mut T,
     trail: &Vec<Steps<'d>>,
+    values: &Values<'d, '_, '_>,
     rule: RowRule<'d>,
     trees: &VecDeque<Tree<'d>>,
 ) -> Result<Option<&'d Value>, Fault>
-    ensures found { IfOk result (λ o. (d : DocumentOf) (depth : ℕ) → option_map (λ v. value_kept v.now) o ≡ first_value (unread_by_entry (T.relations texts.old) d depth (leads_on_of (first_of (map tree_view trees.now.items))) (first_of (map tree_view trees.now.items)) (listed_by (rule_view rule.entry)))) }
+    ensures found { IfOk result (λ o. option_map (λ v. value_kept v.now) o ≡ first_value (unread_by_entry (T.relations texts.old) (values_view values.now).known (first_of (map tree_view trees.now.items)) (listed_by (rule_view rule.entry)))) }
     ensures refused { IfErr result (λ f. NoAnswer (T.faults texts.old) (T.faults texts.new) (fault_view f)) }
     ensures keeps { T.relations texts.new ≡ T.relations texts.old }
     ensures counts { T.faults texts.old ≤ T.faults texts.new }
 {
     match trees.front() {
-        Some(tree) => unread_in(scope, texts, trail, rule, tree),
+        Some(tree) => unread_in(scope, texts, trail, values, rule, tree),
         None => Err(Fault::Memory),
     }
 }
@@ -106,39 +123,41 @@ fn unread_value<'d, T: Texts>(
     scope: &Scope<'d, '_>,
     texts: &mut T,
     trail: &Vec<Steps<'d>>,
+    values: &Values<'d, '_, '_>,
     row: &Row<'d>,
     trees: &VecDeque<Tree<'d>>,
 ) -> Result<Option<&'d Value>, Fault>
-    ensures found { IfOk result (λ o. (d : DocumentOf) (depth : ℕ) (name : List ℕ) → option_map (λ v. value_kept v.now) o ≡ first_value (unread_values (T.relations texts.old) d depth (row_view (T.relations texts.old) row.now) (built name (row_view (T.relations texts.old) row.now) (map tree_view trees.now.items)))) }
+    ensures found { IfOk result (λ o. (name : List ℕ) → option_map (λ v. value_kept v.now) o ≡ first_value (unread_values (T.relations texts.old) (values_view values.now).known (row_view (T.relations texts.old) row.now) (built name (row_view (T.relations texts.old) row.now) (map tree_view trees.now.items)))) }
     ensures refused { IfErr result (λ f. NoAnswer (T.faults texts.old) (T.faults texts.new) (fault_view f)) }
     ensures keeps { T.relations texts.new ≡ T.relations texts.old }
     ensures counts { T.faults texts.old ≤ T.faults texts.new }
 {
     match rule_of(row) {
-        Some(rule) => unread_by(scope, texts, trail, rule, trees),
+        Some(rule) => unread_by(scope, texts, trail, values, rule, trees),
         None => Ok(None),
     }
 }
 
 // Keeps the first value that a row lists and the tree of its part doesn't read, before what was kept.
+#[tactic(auto, using(crate::proofs::Ruled::some_kept, crate::proofs::Ruled::none_kept))]
 fn keep_unread<'d, T: Texts>(
     scope: &Scope<'d, '_>,
     texts: &mut T,
-    kept: &mut Kept<'d>,
+    kept: &mut Kept<'d, '_, '_>,
     trail: &Vec<Steps<'d>>,
     row: &Row<'d>,
     trees: &VecDeque<Tree<'d>>,
 ) -> Result<(), Fault>
     ensures notes { OnOk result ((kept_view kept.new).notes ≡ (kept_view kept.old).notes) }
-    ensures unread { OnOk result ((d : DocumentOf) (depth : ℕ) (name : List ℕ) → (kept_view kept.new).unread ≡ first_before (unread_of (T.relations texts.old) d depth (place_at scope.now.start.now trail.now.items) (row_view (T.relations texts.old) row.now) (built name (row_view (T.relations texts.old) row.now) (map tree_view trees.now.items))) (kept_view kept.old).unread) }
+    ensures values { OnOk result ((name : List ℕ) → (kept_view kept.new).values ≡ with_before (unread_of (T.relations texts.old) (kept_view kept.old).values.known (place_at scope.now.start.now trail.now.items) (row_view (T.relations texts.old) row.now) (built name (row_view (T.relations texts.old) row.now) (map tree_view trees.now.items))) (kept_view kept.old).values) }
     ensures refused { IfErr result (λ f. NoAnswer (T.faults texts.old) (T.faults texts.new) (fault_view f)) }
     ensures keeps { T.relations texts.new ≡ T.relations texts.old }
     ensures counts { T.faults texts.old ≤ T.faults texts.new }
 {
-    match unread_value(scope, texts, trail, row, trees)? {
+    match unread_value(scope, texts, trail, &kept.values, row, trees)? {
         Some(value) => {
             let path = place_of(scope, trail)?;
-            kept.unread = Some(Unread { path, value });
+            kept.values.unread = Some(Unread { path, value });
             Ok(())
         }
         None => Ok(()),
@@ -150,13 +169,13 @@ pub fn keep_unless<'d, T: Texts>(
     had: bool,
     scope: &Scope<'d, '_>,
     texts: &mut T,
-    kept: &mut Kept<'d>,
+    kept: &mut Kept<'d, '_, '_>,
     trail: &Vec<Steps<'d>>,
     row: &Row<'d>,
     trees: &VecDeque<Tree<'d>>,
 ) -> Result<(), Fault>
     ensures notes { OnOk result ((kept_view kept.new).notes ≡ (kept_view kept.old).notes) }
-    ensures unread { OnOk result ((d : DocumentOf) (depth : ℕ) (name : List ℕ) → (kept_view kept.new).unread ≡ first_before_if had (unread_of (T.relations texts.old) d depth (place_at scope.now.start.now trail.now.items) (row_view (T.relations texts.old) row.now) (built name (row_view (T.relations texts.old) row.now) (map tree_view trees.now.items))) (kept_view kept.old).unread) }
+    ensures values { OnOk result ((name : List ℕ) → (kept_view kept.new).values ≡ with_before_if had (unread_of (T.relations texts.old) (kept_view kept.old).values.known (place_at scope.now.start.now trail.now.items) (row_view (T.relations texts.old) row.now) (built name (row_view (T.relations texts.old) row.now) (map tree_view trees.now.items))) (kept_view kept.old).values) }
     ensures refused { IfErr result (λ f. NoAnswer (T.faults texts.old) (T.faults texts.new) (fault_view f)) }
     ensures keeps { T.relations texts.new ≡ T.relations texts.old }
     ensures counts { T.faults texts.old ≤ T.faults texts.new }

@@ -1,5 +1,5 @@
 -- Listed values that an entry doesn't take, nulls left out or not.
-use Rattle.std.proofs.Common.{◌≡◌, Bool, true, false, ◌&&◌, not, cond, List, [], ◌∷◌, map, refl, ap, ◌∙◌}
+use Rattle.std.proofs.Common.{◌≡◌, Bool, true, false, ◌&&◌, not, cond, List, [], ◌∷◌, map, refl, sym, ap, ◌∙◌}
 use Rattle.std.specs.Prelude.{filter, Option, if◌then◌else◌}
 use Rattle.json_value.specs.Value.{Value}
 use Rattle.schema_defs.specs.Texts.{Relations}
@@ -11,7 +11,7 @@ use Rattle.entry_defs.specs.Takes.{takes}
 use Rattle.convert_defs.specs.Scalars.{non_null}
 use Rattle.row_types.specs.declared.given.GivenValues.{GivenValues}
 use Rattle.row_types.specs.Given.{given_values_view}
-use Rattle.scalar_takes.specs.Unread.{first_of, unread, standing_unread}
+use Rattle.scalar_takes.specs.Unread.{first_of, unread, standing as standing_listed, standing_unread}
 
 abbrev given : Bool → List Value → List Value
 given less vs = if less then non_null vs else vs
@@ -39,7 +39,22 @@ module _ (test : Value → Bool) where
   kept-by true vs = kept-less vs
   kept-by false vs = kept-plain vs
 
-module _ (r : Relations) (e : Entry) where
-  pub unread_given : (v : GivenValues) (o : Option Value) → ((t : Table) → first_of (standing_unread t r e v.less_nulls (map kept_view v.listed.now.items)) ≡ o)
-      → (t : Table) → first_of (unread t r e (given_values_view v)) ≡ o
-  unread_given v o h t = ap first_of (kept-by (λ x. not (takes t r e x)) v.less_nulls (map kept_view v.listed.now.items)) ∙ h t
+module _ (t : Table) (r : Relations) (e : Entry) where
+  pub unread_given : (v : GivenValues) (o : Option Value) → first_of (standing_unread t r e v.less_nulls (map kept_view v.listed.now.items)) ≡ o → first_of (unread t r e (given_values_view v)) ≡ o
+  unread_given v o h = ap first_of (kept-by (λ x. not (takes t r e x)) v.less_nulls (map kept_view v.listed.now.items)) ∙ h
+
+-- all that stand
+pub standing_given : (v : GivenValues) (o : Option Value) → o ≡ first_of (standing_listed v.less_nulls (map kept_view v.listed.now.items)) → o ≡ first_of (given_values_view v)
+standing_given v o h = h ∙ sym (ap first_of (by v.less_nulls (map kept_view v.listed.now.items)))
+  where
+    kept : (vs : List Value) → non_null vs ≡ standing_listed true vs
+    kept [] = refl
+    kept (x ∷ xs) = ap (λ zs. cond (not (is_null x)) (x ∷ zs) zs) (kept xs)
+
+    all : (vs : List Value) → vs ≡ standing_listed false vs
+    all [] = refl
+    all (x ∷ xs) = ap (λ zs. x ∷ zs) (all xs)
+
+    by : (less : Bool) (vs : List Value) → given less vs ≡ standing_listed less vs
+    by true vs = kept vs
+    by false vs = all vs

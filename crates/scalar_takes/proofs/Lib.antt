@@ -1,9 +1,11 @@
-pub mod Leads
 pub mod Contents
 pub mod Forms
+pub mod Fuel
 pub mod Given
+pub mod Ranks
 pub mod Ruled
 pub mod Seen
 pub mod Tagged
+pub mod TargetSteps
 pub mod Trees
 pub mod Variants

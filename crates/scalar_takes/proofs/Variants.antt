@@ -9,7 +9,7 @@ use Rattle.model_defs.specs.Model.{TagModel, external_tag}
 use Rattle.entry_defs.specs.Entry.{VariantEntry, Contents, variants_of}
 use Rattle.entry_defs.specs.Layer.{contents_entry, is_unit_named, variant_named}
 use Rattle.entry_defs.specs.Table.{Table}
-use Rattle.entry_defs.specs.Takes.{takes}
+use Rattle.scalar_takes.specs.Followed.{following, takes_in}
 use Rattle.naming_defs.specs.Names.{name_by}
 use Rattle.entry_trees.specs.View.{label_view, contents_view, variants_view, parts_of, cases_of}
 use Rattle.entry_trees.specs.declared.tree.FieldHead.{FieldHead}
@@ -45,22 +45,22 @@ module _ (s : List ℕ) where
 
 -- ---- what is taken
 
-module _ (r : Relations) (v : Value) where
-  abbrev pub some_in : Table → TagModel → Bool → List Variant → Bool
-  some_in t tag closed ws = list_any (λ w. takes t r (contents_entry closed w.contents) v) (listed tag ws)
+module _ (t : Table) (left : ℕ) (r : Relations) (v : Value) where
+  abbrev pub some_in : ℕ → TagModel → Bool → List Variant → Bool
+  some_in m tag closed ws = list_any (λ w. takes_in (following t left m) r (contents_entry closed w.contents) v) (listed tag ws)
 
   pub taken_found : (p : Relations) (xs ys : List Variant) (i : ℕ) (w : Variant) (b : Bool) → p ≡ r → xs ≡ ys → i < length xs → w ≡ get_or xs i w → b ≡ true
-      → ((t : Table) (tag : TagModel) (closed : Bool) → some_in t tag closed ys ≡ some_in t tag closed (drop i ys))
-      → ((t : Table) (closed : Bool) → takes t p (contents_entry closed (content w)) v ≡ b)
-      → (t : Table) (tag : TagModel) (closed : Bool) → some_in t tag closed ys ≡ true
-  taken_found p xs ys i w b same e h k q left found t tag closed =
-      left t tag closed
-      ∙ ap (list_any (λ z. takes t r (contents_entry closed z.contents) v)) (next tag xs ys i w e h k)
-      ∙ ap (λ z. takes t z (contents_entry closed (content w)) v || some_in t tag closed (drop (i + 1) ys)) (sym same)
-      ∙ ap (λ c. c || some_in t tag closed (drop (i + 1) ys)) (found t closed ∙ q)
+      → ((m : ℕ) (tag : TagModel) (closed : Bool) → some_in m tag closed ys ≡ some_in m tag closed (drop i ys))
+      → ((m : ℕ) (closed : Bool) → takes_in (following t left m) p (contents_entry closed (content w)) v ≡ b)
+      → (m : ℕ) (tag : TagModel) (closed : Bool) → some_in m tag closed ys ≡ true
+  taken_found p xs ys i w b same e h k q rest found m tag closed =
+      rest m tag closed
+      ∙ ap (list_any (λ z. takes_in (following t left m) r (contents_entry closed z.contents) v)) (next tag xs ys i w e h k)
+      ∙ ap (λ z. takes_in (following t left m) z (contents_entry closed (content w)) v || some_in m tag closed (drop (i + 1) ys)) (sym same)
+      ∙ ap (λ c. c || some_in m tag closed (drop (i + 1) ys)) (found m closed ∙ q)
 
   pub taken_none : (xs ys : List Variant) (i : ℕ) → xs ≡ ys → length xs ≤ i
-      → ((t : Table) (tag : TagModel) (closed : Bool) → some_in t tag closed ys ≡ some_in t tag closed (drop i ys))
-      → (t : Table) (tag : TagModel) (closed : Bool) → some_in t tag closed ys ≡ false
-  taken_none xs ys i e h left t tag closed =
-      left t tag closed ∙ ap (λ zs. some_in t tag closed (drop i zs)) (sym e) ∙ at_drop_all (some_in t tag closed) xs i h
+      → ((m : ℕ) (tag : TagModel) (closed : Bool) → some_in m tag closed ys ≡ some_in m tag closed (drop i ys))
+      → (m : ℕ) (tag : TagModel) (closed : Bool) → some_in m tag closed ys ≡ false
+  taken_none xs ys i e h rest m tag closed =
+      rest m tag closed ∙ ap (λ zs. some_in m tag closed (drop i zs)) (sym e) ∙ at_drop_all (some_in m tag closed) xs i h

@@ -1,4 +1,5 @@
-pub mod Leading
+pub mod Followed
 pub mod Owners
 pub mod Rules
+pub mod Targets
 pub mod Unread

@@ -22,3 +22,7 @@ module _ (t : Table) (r : Relations) (e : Entry) where
 
   abbrev pub standing_unread : Bool → List Value → List Value
   standing_unread less_nulls vs = filter (is_unread less_nulls) vs
+
+-- those that stand where nulls are left out or not
+abbrev pub standing : Bool → List Value → List Value
+standing less_nulls vs = filter (λ v. not (less_nulls && is_null v)) vs

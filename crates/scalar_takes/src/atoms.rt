@@ -1,16 +1,16 @@
 //! Values and entries without parts.
-ghost use Rattle.std.specs.Prelude.{◌≡◌, ◌≤◌, IfOk, IsErrOf};
+ghost use Rattle.std.specs.Prelude.{◌≡◌, ◌≤◌, IfOk, IfSome, IsErrOf};
 ghost use Rattle.run_io.specs.Bytes.{Rises};
 ghost use Rattle.schema_defs.specs.Integers.{in_range};
 ghost use Rattle.schema_types.specs.View.{kept_view};
 ghost use Rattle.model_defs.specs.Layer.{has_the_format, is_boolean as is_boolean_value, is_in_range, is_text as is_text_value};
+ghost use Rattle.entry_defs.specs.Entry.{reference};
 ghost use Rattle.entry_defs.specs.Layer.{integer_range};
-ghost use Rattle.entry_defs.specs.Table.{Table};
-ghost use Rattle.entry_defs.specs.Takes.{takes};
 ghost use Rattle.entry_types.specs.View.{integer_view};
-ghost use Rattle.entry_trees.specs.View.{atom_view};
+ghost use Rattle.entry_trees.specs.View.{atom_view, target_view};
+ghost use Rattle.scalar_takes.specs.Followed.{Followed, takes_in};
 
-use entry_trees::Atom;
+use entry_trees::{Atom, Target};
 use entry_types::IntName;
 use scalar_rows::is_null;
 use schema_tree::{Format, TextFault, Texts};
@@ -85,7 +85,7 @@ fn has_format<T: Texts>(format: Format, value: &Value, texts: &mut T) -> Result<
 /// Whether an entry without parts takes the value. It fails where the judge of texts does, and a reference is answered by want of memory.
 #[tactic(auto, using(crate::proofs::Forms::boolean_taken, crate::proofs::Forms::integer_taken, crate::proofs::Forms::text_taken, crate::proofs::Forms::native_taken, crate::proofs::Forms::any_taken, crate::proofs::Forms::unit_taken))]
 pub fn atom_takes<T: Texts>(atom: &Atom, value: &Value, texts: &mut T) -> Result<bool, TextFault>
-    ensures taken { IfOk result (λ b. (t : Table) → takes t (T.relations texts.old) (atom_view atom.now) (kept_view value.now) ≡ b) }
+    ensures taken { IfOk result (λ b. (t : Followed) → takes_in t (T.relations texts.old) (atom_view atom.now) (kept_view value.now) ≡ b) }
     ensures keeps { T.relations texts.new ≡ T.relations texts.old }
     ensures failed { IsErrOf result TextFault.Failed → Rises (T.faults texts.old) (T.faults texts.new) }
     ensures counts { T.faults texts.old ≤ T.faults texts.new }
@@ -101,5 +101,20 @@ pub fn atom_takes<T: Texts>(atom: &Atom, value: &Value, texts: &mut T) -> Result
         Atom::Any => Ok(true),
         Atom::Unit => Ok(is_null(value)),
         Atom::Reference(_) => Err(TextFault::Memory),
+    }
+}
+
+/// What an atom refers to.
+pub fn target_of(atom: &Atom) -> Option<&Target>
+    ensures { IfSome result (λ q. atom_view atom.now ≡ reference (target_view q.now)) }
+{
+    match atom {
+        Atom::Reference(target) => Some(target),
+        Atom::Bool => None,
+        Atom::Integer(_) => None,
+        Atom::Text => None,
+        Atom::Native(_) => None,
+        Atom::Any => None,
+        Atom::Unit => None,
     }
 }

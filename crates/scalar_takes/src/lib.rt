@@ -1,9 +1,9 @@
-//! Whether the values that a rule lists are read as what stands under the rule. It takes no memory: want of memory is what a
-//! judge of texts runs into, or the answer where a reference would have to be followed, or a list or an object looked into.
+//! Whether the values that a rule lists are read as what stands under the rule, by a table of trees. It takes no memory: want of memory is
+//! what a judge of texts runs into, or the answer where references lead round, or a list or an object would have to be looked into.
 #![tactic(auto)]
 
 mod atoms;
-mod leading;
+mod led;
 mod listed;
 mod owners;
 mod rules;
@@ -11,6 +11,5 @@ mod scalars;
 mod tags;
 mod wraps;
 
-pub use leading::leads_on;
-pub use listed::{first_unread, first_unread_by};
+pub use listed::{first_listed_by, first_unread_by};
 pub use scalars::takes_scalar;

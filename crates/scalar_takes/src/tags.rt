@@ -7,10 +7,9 @@ ghost use Rattle.enum_defs.specs.Words.{as_text as as_text_of};
 ghost use Rattle.model_defs.specs.Model.{external_tag};
 ghost use Rattle.entry_defs.specs.Entry.{item, enum_shape, variants_of};
 ghost use Rattle.entry_defs.specs.Layer.{contents_entry, is_unit as is_unit_of, is_unit_named, variant_named};
-ghost use Rattle.entry_defs.specs.Table.{Table};
-ghost use Rattle.entry_defs.specs.Takes.{takes};
 ghost use Rattle.row_types.specs.View.{tag_view};
 ghost use Rattle.entry_trees.specs.View.{Parts, cases_of, contents_view, variants_view};
+ghost use Rattle.scalar_takes.specs.Followed.{Followed, takes_in};
 
 use crate::owners::no_object;
 use entry_trees::{ContentKind, FieldHead, Tree, VariantHead};
@@ -57,7 +56,7 @@ fn external_takes<'d>(
     variants: &Vec<(VariantHead<'d>, Vec<(FieldHead<'d>, Option<Tree<'d>>)>)>,
     value: &Value,
 ) -> Result<bool, TextFault>
-    ensures taken { IfOk result (λ b. (t : Table) (r : Relations) (n : List ℕ) (closed : Bool) → takes t r (item n (enum_shape closed external_tag (variants_view external_tag (cases_of variants.now.items)))) (kept_view value.now) ≡ b) }
+    ensures taken { IfOk result (λ b. (t : Followed) (r : Relations) (n : List ℕ) (closed : Bool) → takes_in t r (item n (enum_shape closed external_tag (variants_view external_tag (cases_of variants.now.items)))) (kept_view value.now) ≡ b) }
     ensures memory { IfErr result (λ e. e ≡ TextFault.Memory) }
 {
     match as_text(value) {
@@ -76,9 +75,9 @@ pub fn tag_takes<'d>(
     variants: &Vec<(VariantHead<'d>, Vec<(FieldHead<'d>, Option<Tree<'d>>)>)>,
     value: &Value,
 ) -> Result<Option<bool>, TextFault>
-    ensures taken { IfOk result (λ o. (t : Table) (r : Relations) (n : List ℕ) (closed : Bool) →
+    ensures taken { IfOk result (λ o. (t : Followed) (r : Relations) (n : List ℕ) (closed : Bool) →
         let ws = variants_view (tag_view tag.now) (cases_of variants.now.items) in
-        takes t r (item n (enum_shape closed (tag_view tag.now) ws)) (kept_view value.now) ≡ unwrap_or o (list_any (λ w. takes t r (contents_entry closed w.contents) (kept_view value.now)) (variants_of ws))) }
+        takes_in t r (item n (enum_shape closed (tag_view tag.now) ws)) (kept_view value.now) ≡ unwrap_or o (list_any (λ w. takes_in t r (contents_entry closed w.contents) (kept_view value.now)) (variants_of ws))) }
     ensures memory { IfErr result (λ e. e ≡ TextFault.Memory) }
 {
     match tag {

@@ -4,9 +4,8 @@ ghost use Rattle.run_io.specs.Bytes.{Rises};
 ghost use Rattle.schema_types.specs.View.{kept_view};
 ghost use Rattle.entry_defs.specs.Entry.{Entry};
 ghost use Rattle.entry_defs.specs.Layer.{rule_holds as rule_holds_in};
-ghost use Rattle.entry_defs.specs.Table.{Table};
-ghost use Rattle.entry_defs.specs.Takes.{takes};
 ghost use Rattle.entry_trees.specs.View.{rule_view, wrapped};
+ghost use Rattle.scalar_takes.specs.Followed.{Followed, takes_in};
 
 use crate::owners::no_list;
 use crate::rules::rule_holds;
@@ -41,7 +40,7 @@ pub fn wrap_takes<T: Texts>(
     value: &Value,
     texts: &mut T,
 ) -> Result<Option<bool>, TextFault>
-    ensures taken { IfOk result (λ o. (t : Table) (e : Entry) → takes t (T.relations texts.old) (wrapped wrap.now e) (kept_view value.now) ≡ unwrap_or o (takes t (T.relations texts.old) e (kept_view value.now))) }
+    ensures taken { IfOk result (λ o. (t : Followed) (e : Entry) → takes_in t (T.relations texts.old) (wrapped wrap.now e) (kept_view value.now) ≡ unwrap_or o (takes_in t (T.relations texts.old) e (kept_view value.now))) }
     ensures keeps { T.relations texts.new ≡ T.relations texts.old }
     ensures failed { IsErrOf result TextFault.Failed → Rises (T.faults texts.old) (T.faults texts.new) }
     ensures counts { T.faults texts.old ≤ T.faults texts.new }

@@ -7,10 +7,11 @@ use Rattle.schema_defs.specs.Admits.{defined, definition_word}
 use Rattle.schema_defs.specs.Children.{schema_at}
 use Rattle.entry_defs.specs.Entry.{Target, the_root, definition, Entry}
 use Rattle.entry_defs.specs.Space.{Id}
+use Rattle.entry_defs.specs.Table.{Table}
 use Rattle.convert_defs.specs.Convert.{Handed, raw_entry, root_name, Node, tree, notes_in, table_of, definition_trees, root_tree}
 use Rattle.convert_defs.specs.RootReference.{refers_to_root}
 use Rattle.convert_trees.specs.Unread.{unread_listed}
-use Rattle.type_space.specs.Placing.{with_tree, target_id, next_id}
+use Rattle.type_space.specs.Placing.{led_alone, with_tree, target_id, next_id}
 use Rattle.type_space.specs.Space.{History, Keeps}
 use Rattle.type_space.specs.declared.keeping.Held.{Held}
 use Rattle.type_space.specs.declared.space.TypeSpace.{TypeSpace}
@@ -38,13 +39,11 @@ module _ (r : Relations) (d : Document) (depth : ℕ) where
   abbrev pub target_nodes : List Node
   target_nodes = definition_trees r d depth d.definitions ++ used_root_tree (refers_to_root d)
 
+  abbrev pub targets_table : Table
+  targets_table = led_alone (table_of r d depth)
+
   abbrev pub with_targets : History → History
-  with_targets h =
-      record {
-        table = record { targets = (table_of r d depth).targets; trees = [] };
-        notes = h.notes ++ notes_in r d target_nodes;
-        unread = h.unread ++ unread_listed r d depth target_nodes;
-      }
+  with_targets h = record { table = targets_table; notes = h.notes ++ notes_in r d target_nodes; unread = h.unread ++ unread_listed r (Some targets_table) d target_nodes }
 
 -- ---- one more schema
 
@@ -55,8 +54,8 @@ wanted_at d [] None = Some (root_name d.root)
 wanted_at d (k ∷ ks) None = None
 
 -- with the tree of a schema, and what its nodes tell
-abbrev pub with_nodes : Relations → Document → ℕ → Entry → List Node → History → History
-with_nodes r d depth e ts h = record { table = with_tree h.table e; notes = h.notes ++ notes_in r d ts; unread = h.unread ++ unread_listed r d depth ts }
+abbrev pub with_nodes : Relations → Document → Entry → List Node → History → History
+with_nodes r d e ts h = record { table = with_tree h.table e; notes = h.notes ++ notes_in r d ts; unread = h.unread ++ unread_listed r (Some (led_alone h.table)) d ts }
 
 module _ (r : Relations) (d : Document) (depth : ℕ) (at : Location) (name : Handed) where
   abbrev pub schema_entry : Schema → Entry
@@ -68,7 +67,7 @@ module _ (r : Relations) (d : Document) (depth : ℕ) (at : Location) (name : Ha
   -- with the id of it; nothing is converted where it has an item
   abbrev pub added_by : Option Target → Option Schema → History → History × Id
   added_by (Some q) o h = (h, target_id h.table q)
-  added_by None (Some s) h = (with_nodes r d depth (schema_entry s) (schema_nodes s) h, next_id h.table (schema_entry s))
+  added_by None (Some s) h = (with_nodes r d (schema_entry s) (schema_nodes s) h, next_id h.table (schema_entry s))
   added_by None None h = (h, zero)
 
   abbrev pub added : History → History × Id

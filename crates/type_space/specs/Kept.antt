@@ -1,8 +1,14 @@
--- A listed value that isn't read, as a space keeps it.
-use Rattle.std.specs.Prelude.{[], Option, Some, None}
+-- What is found of nodes that are converted, and a listed value that isn't read, as a space keeps it.
+use Rattle.std.specs.Prelude.{◌≡◌, ℕ, List, [], Option, Some, None}
+use Rattle.schema_defs.specs.Texts.{Relations}
+use Rattle.schema_defs.specs.Schema.{Document}
 use Rattle.schema_types.specs.View.{kept_view as value_kept}
-use Rattle.convert_trees.specs.Unread.{At}
+use Rattle.entry_defs.specs.Table.{Table}
+use Rattle.convert_defs.specs.Row.{Note}
+use Rattle.convert_defs.specs.Convert.{Node, notes_in}
+use Rattle.convert_trees.specs.Unread.{At, first_kept, unread_listed}
 use Rattle.convert_trees.specs.Keeping.{KeptD}
+use Rattle.convert_trees.specs.Told.{AreFine}
 use Rattle.type_space.specs.declared.keeping.Listed.{Listed}
 
 abbrev pub listed_view : Listed → At
@@ -13,6 +19,12 @@ abbrev pub or_kept : Option At → Option At → Option At
 or_kept None b = b
 or_kept (Some a) b = Some a
 
--- nothing yet
-abbrev pub none_kept : KeptD
-none_kept = record { notes = []; unread = None }
+-- nothing yet, where listed values are asked by that table
+abbrev pub none_kept : Option Table → KeptD
+none_kept k = record { notes = []; values = record { known = k; unread = None } }
+
+-- neither a fault nor a stated default, the notes, and the first listed value that isn't read by the table
+pub record FoundOf (r : Relations) (d : Document) (most : ℕ) (t : Table) (ts : List Node) (notes : List Note) (first : Option At) : Type 0 where
+  pub fine : AreFine r d most ts
+  pub noted : notes ≡ notes_in r d ts
+  pub unread : first ≡ first_kept None (unread_listed r (Some t) d ts)

@@ -16,6 +16,10 @@ use Rattle.type_space.specs.declared.plan.Plan.{Plan}
 abbrev pub with_names : Table → Table
 with_names t = named_table is_good_name t
 
+-- the items that references lead to, alone: listed values are asked by them
+abbrev pub led_alone : Table → Table
+led_alone t = record { targets = t.targets; trees = [] }
+
 -- the entries of a table, where its trees have come so far
 abbrev pub entries_of : Table → Space
 entries_of t = space_so_far (with_names t)

@@ -61,14 +61,15 @@ fn ended(
 }
 
 /// The first listed value that isn't read, or else what is emitted, with the notes in their order.
-pub(crate) fn finished(alloc: Global, held: Held, root: TypeId) -> Result<Emitted, Fault>
-    ensures emission { IfOk result (λ e. emitted_view e ≡ emission_at (seen held.plan.space) (id_view root)) }
-    ensures notes { IfOk result (λ e. e.notes.items ≡ map note_of (ordered (notes_view held.notes.items))) }
-    ensures read { OnOk result (option_map listed_view held.unread ≡ None) }
-    ensures refused { IfErr result (λ f. (fault_view f ≡ memory) ⊎ IsFirstUnread (option_map listed_view held.unread) (fault_view f)) }
+pub(crate) fn finished(alloc: Global, held: Held<'_>, root: TypeId) -> Result<Emitted, Fault>
+    ensures emission { IfOk result (λ e. emitted_view e ≡ emission_at (seen held.entry.plan.space) (id_view root)) }
+    ensures notes { IfOk result (λ e. e.notes.items ≡ map note_of (ordered (notes_view held.entry.notes.items))) }
+    ensures read { OnOk result (option_map listed_view held.entry.unread ≡ None) }
+    ensures refused { IfErr result (λ f. (fault_view f ≡ memory) ⊎ IsFirstUnread (option_map listed_view held.entry.unread) (fault_view f)) }
 {
     let Held {
         plan,
+        known: _known,
         notes,
         unread,
     } = held;

@@ -19,7 +19,7 @@ ghost use Rattle.type_space.specs.Refused.{IsRefusal, IsUnread};
 
 use crate::collect::add_targets;
 use crate::finish::finished;
-use crate::keeping::Held;
+use crate::keeping::{Held, alone};
 use crate::plan::empty_plan;
 use crate::refusing::{check, keep};
 use crate::schema::add_schema;
@@ -37,7 +37,7 @@ pub struct TypeSpace<'d> {
     pub(crate) document: &'d Document,
     pub(crate) depth: u32,
     pub(crate) begun: bool,
-    pub(crate) held: Held,
+    pub(crate) held: Held<'d>,
     pub(crate) refusal: Option<Fault>,
 }
 
@@ -59,6 +59,7 @@ impl<'d> TypeSpace<'d> {
             begun: false,
             held: Held {
                 plan: empty_plan(alloc),
+                known: alone(alloc, Vec::new(alloc)),
                 notes: Vec::new(alloc),
                 unread: None,
             },

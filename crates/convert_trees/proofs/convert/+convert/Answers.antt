@@ -49,7 +49,7 @@ convert-returns-clause-told g t c =
     told_here r d c.args.scope.now.depth c.args.left c.args.made h (place_at c.args.scope.now.start.now c.args.trail.now.items) s (finding_view r c.in_ok-finding.finding) r'
     (kept_view c.args.kept.now) (kept_view c.checked.new.kept) (kept_view c.convert_found.new.kept) (row_view r' row) (tree_view c.in_ok-tree.tree)
     (λ k. absurd (omega (arith, k, c.if-made-eq0.false))) (c.in_ok-finding.ensures.finding r) (c.in_ok-finding.ensures.fine d) c.in_ok-finding.ensures.unstated c.in_ok-finding.ensures.branches
-    c.in_ok-finding.ensures.notes c.in_ok-finding.ensures.unread
+    c.in_ok-finding.ensures.notes c.in_ok-finding.ensures.values
     (ap (λ (r : Relations). row_view r row) c.in_ok-finding.ensures.keeps)
     c.in_ok-finding.ensures.keeps (convert-returns-clause-entry g t c) c.in_ok-tree.ensures.told
 
@@ -85,7 +85,7 @@ convert_found-returns-clause-told g t c =
     let most = c.args.scope.now.depth in
     told_of_row r d most (place_at c.args.scope.now.start.now c.args.trail.now.items) c.args.finding.now.row (tree_view c.in_ok-tree.tree) _
     (kept_view c.args.kept.now) (kept_view c.convert_row.new.kept) (kept_view c.finished.new.kept) (g.T.Texts.relations c.convert_row.new.texts) c.is_some-had.result
-    c.in_ok-trees.ensures.keeps (had_seen c.args.kept.now.unread c.is_some-had.result c.is_some-had.ensures) c.in_ok-trees.ensures.told c.in_ok-tree.ensures.notes (c.in_ok-tree.ensures.unread d most)
+    c.in_ok-trees.ensures.keeps (had_seen c.args.kept.now.values.unread c.is_some-had.result c.is_some-had.ensures) c.in_ok-trees.ensures.told c.in_ok-tree.ensures.notes c.in_ok-tree.ensures.values
 
 pub convert_found-returns-in_err-trees-clause-refused : goal.convert_found-returns-in_err-trees-clause-refused
 convert_found-returns-in_err-trees-clause-refused g t c =

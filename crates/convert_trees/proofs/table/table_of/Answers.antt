@@ -1,66 +1,37 @@
-use Rattle.std.proofs.Common.{map, rules}
+use Rattle.std.proofs.Common.{ap}
+use Rattle.std.specs.Prelude.{None, option_map}
 use Rattle.schema_tree.specs.Document.{view as document_seen}
-use Rattle.entry_trees.specs.View.{table_view, target_entry, tree_view}
+use Rattle.entry_trees.specs.View.{table_view}
+use Rattle.convert_trees.specs.Keeping.{KeptD, kept_view, unread_view}
 use Rattle.convert_trees.proofs.Here.{if_err}
-use Rattle.convert_trees.proofs.Roots.{all_told, is_faultless, is_unstated, all_notes, all_unread, definitions_refuse, root_refuses, want_all, whole_table}
+use Rattle.convert_trees.proofs.Roots.{is_faultless, is_unstated, all_notes, all_values, unread_whole, refuses_later}
 use Rattle.convert_trees.proofs.table.table_of.Goals as goal
-
-pub returns-clause-table : goal.returns-clause-table
-returns-clause-table g c =
-    let r = g.T.Texts.relations c.args.texts.now in
-    let d = document_seen c.args.document.now in
-    let most = c.args.depth in
-    whole_table r d most (g.T.Texts.relations c.definition_targets.new.texts) (table_view c.in_ok-table.table) (map target_entry c.in_ok-targets.targets.items) (tree_view c.in_ok-root.root)
-    c.in_ok-table.ensures.table c.in_ok-targets.ensures.targets c.in_ok-targets.ensures.keeps c.in_ok-root.ensures.entry
 
 pub returns-clause-faultless : goal.returns-clause-faultless
 returns-clause-faultless g c =
-    let r = g.T.Texts.relations c.args.texts.now in
-    let d = document_seen c.args.document.now in
-    let most = c.args.depth in
-    is_faultless r d most _ _ (all_told r d most _ _ _ (g.T.Texts.relations c.definition_targets.new.texts) c.in_ok-targets.ensures.keeps c.in_ok-targets.ensures.told c.in_ok-root.ensures.told)
+    is_faultless (g.T.Texts.relations c.args.texts.now) (document_seen c.args.document.now) c.args.depth _ _ c.in_ok-table.ensures.told
 
 pub returns-clause-stated : goal.returns-clause-stated
 returns-clause-stated g c =
-    let r = g.T.Texts.relations c.args.texts.now in
-    let d = document_seen c.args.document.now in
-    let most = c.args.depth in
-    is_unstated r d most _ _ (all_told r d most _ _ _ (g.T.Texts.relations c.definition_targets.new.texts) c.in_ok-targets.ensures.keeps c.in_ok-targets.ensures.told c.in_ok-root.ensures.told)
+    is_unstated (g.T.Texts.relations c.args.texts.now) (document_seen c.args.document.now) c.args.depth _ _ c.in_ok-table.ensures.told
 
 pub returns-clause-notes : goal.returns-clause-notes
 returns-clause-notes g c =
-    let r = g.T.Texts.relations c.args.texts.now in
-    let d = document_seen c.args.document.now in
-    let most = c.args.depth in
-    all_notes r d most _ _ (search rules) (all_told r d most _ _ _ (g.T.Texts.relations c.definition_targets.new.texts) c.in_ok-targets.ensures.keeps c.in_ok-targets.ensures.told c.in_ok-root.ensures.told)
+    all_notes (g.T.Texts.relations c.args.texts.now) (document_seen c.args.document.now) c.args.depth _ _
+    (ap (λ (k : KeptD). k.notes) c.nothing_kept-kept.ensures) c.in_ok-table.ensures.told
 
 pub returns-clause-unread : goal.returns-clause-unread
 returns-clause-unread g c =
     let r = g.T.Texts.relations c.args.texts.now in
     let d = document_seen c.args.document.now in
     let most = c.args.depth in
-    all_unread r d most _ _ (search rules) (all_told r d most _ _ _ (g.T.Texts.relations c.definition_targets.new.texts) c.in_ok-targets.ensures.keeps c.in_ok-targets.ensures.told c.in_ok-root.ensures.told)
+    unread_whole r d most (g.T.Texts.relations c.table_with.new.texts) (table_view c.in_ok-table.table) (option_map unread_view c.table_with.new.kept.values.unread) (option_map unread_view c.in_ok-unread.unread)
+    c.in_ok-table.ensures.keeps c.in_ok-table.ensures.table c.in_ok-unread.ensures.unread
+    (all_values r d most None _ (kept_view c.table_with.new.kept) (ap (λ (k : KeptD). k.values) c.nothing_kept-kept.ensures) c.in_ok-table.ensures.told)
 
-pub returns-in_err-targets-clause-refused : goal.returns-in_err-targets-clause-refused
-returns-in_err-targets-clause-refused g c =
+pub returns-in_err-unread-clause-refused : goal.returns-in_err-unread-clause-refused
+returns-in_err-unread-clause-refused g c =
     let r = g.T.Texts.relations c.args.texts.now in
     let d = document_seen c.args.document.now in
-    let most = c.args.depth in
-    if_err c.from_residual.result c.in_err-targets.field-0.0 _ c.from_residual.ensures.1
-    (definitions_refuse r d most _ _ _ c.in_err-targets.ensures.refused)
-
-pub returns-in_err-root-clause-refused : goal.returns-in_err-root-clause-refused
-returns-in_err-root-clause-refused g c =
-    let r = g.T.Texts.relations c.args.texts.now in
-    let d = document_seen c.args.document.now in
-    let most = c.args.depth in
-    if_err c.from_residual-in_err-root.result c.in_err-root.field-0.0 _ c.from_residual-in_err-root.ensures.1
-    (root_refuses r d most _ _ _ (g.T.Texts.relations c.definition_targets.new.texts) _ _ _ c.in_ok-targets.ensures.keeps c.in_ok-targets.ensures.counts c.in_ok-targets.ensures.told c.in_err-root.ensures.refused)
-
-pub returns-in_err-table-clause-refused : goal.returns-in_err-table-clause-refused
-returns-in_err-table-clause-refused g c =
-    let r = g.T.Texts.relations c.args.texts.now in
-    let d = document_seen c.args.document.now in
-    let most = c.args.depth in
-    if_err c.from_residual-in_err-table.result c.in_err-table.field-0.0 _ c.from_residual-in_err-table.ensures.1
-    (want_all r d most _ _ _ _ c.in_err-table.ensures.memory)
+    if_err c.from_residual-in_err-unread.result c.in_err-unread.field-0.0 _ c.from_residual-in_err-unread.ensures.1
+    (refuses_later r d c.args.depth _ (g.T.Texts.relations c.table_with.new.texts) _ _ _ c.in_ok-table.ensures.keeps c.in_ok-table.ensures.counts c.in_err-unread.ensures.refused)

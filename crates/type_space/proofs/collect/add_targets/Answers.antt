@@ -5,10 +5,10 @@ use Rattle.type_space.proofs.collect.add_targets.Goals as goal
 
 pub returns-clause-added : goal.returns-clause-added
 returns-clause-added g c h keeps =
-    c.in_ok-hold_targets.ensures.held (g.T.Texts.relations c.args.texts.now) (document_seen c.args.document.now) c.args.depth h c.in_ok-found.ensures.targets c.in_ok-found.ensures.told keeps
+    c.in_ok-hold_targets.ensures.held (g.T.Texts.relations c.args.texts.now) (document_seen c.args.document.now) c.args.depth h c.in_ok-found.ensures.table c.in_ok-found.ensures.found keeps
 
 pub returns-clause-fine : goal.returns-clause-fine
-returns-clause-fine g c = c.in_ok-found.ensures.told.fine
+returns-clause-fine g c = c.in_ok-found.ensures.found.fine
 
 pub returns-in_err-hold_targets-clause-refused : goal.returns-in_err-hold_targets-clause-refused
 returns-in_err-hold_targets-clause-refused g c =

@@ -1,27 +1,18 @@
-use Rattle.std.proofs.Common.{map}
+use Rattle.std.proofs.Common.{option_map}
 use Rattle.schema_tree.specs.Document.{view as document_seen}
-use Rattle.entry_trees.specs.View.{target_entry}
+use Rattle.entry_trees.specs.View.{table_view}
+use Rattle.convert_trees.specs.Keeping.{kept_view, unread_view}
 use Rattle.convert_trees.proofs.Here.{if_err}
-use Rattle.type_space.proofs.Told.{all_told, all_targets, first_refuses, second_refuses}
+use Rattle.type_space.proofs.Told.{refuses_later, targets_found}
 use Rattle.type_space.proofs.collect.collected.Goals as goal
 
-pub returns-clause-targets : goal.returns-clause-targets
-returns-clause-targets g c =
-    all_targets (g.T.Texts.relations c.args.texts.now) (document_seen c.args.document.now) c.args.depth (g.T.Texts.relations c.definition_targets.new.texts) (map target_entry c.in_ok-definitions.definitions.items)
-    (map target_entry c.in_ok-targets.targets.items) c.in_ok-definitions.ensures.keeps c.in_ok-definitions.ensures.targets c.in_ok-targets.ensures.targets
+pub returns-clause-found : goal.returns-clause-found
+returns-clause-found g c =
+    targets_found (g.T.Texts.relations c.args.texts.now) (document_seen c.args.document.now) c.args.depth (g.T.Texts.relations c.targets_with.new.texts) (table_view c.in_ok-table.table) _ (kept_view c.targets_with.new.kept)
+    (option_map unread_view c.in_ok-unread.unread) c.in_ok-table.ensures.keeps c.nothing_kept-kept.ensures c.in_ok-table.ensures.told c.in_ok-unread.ensures.unread
 
-pub returns-clause-told : goal.returns-clause-told
-returns-clause-told g c =
-    all_told (g.T.Texts.relations c.args.texts.now) (document_seen c.args.document.now) c.args.depth (g.T.Texts.relations c.definition_targets.new.texts) _ _ _ c.in_ok-definitions.ensures.keeps c.nothing_kept-kept.ensures
-    c.in_ok-definitions.ensures.told c.in_ok-targets.ensures.told
-
-pub returns-in_err-definitions-clause-refused : goal.returns-in_err-definitions-clause-refused
-returns-in_err-definitions-clause-refused g c =
-    if_err c.from_residual.result c.in_err-definitions.field-0.0 _ c.from_residual.ensures.1
-    (first_refuses (g.T.Texts.relations c.args.texts.now) (document_seen c.args.document.now) c.args.depth _ _ _ c.in_err-definitions.ensures.refused)
-
-pub returns-in_err-targets-clause-refused : goal.returns-in_err-targets-clause-refused
-returns-in_err-targets-clause-refused g c =
-    if_err c.from_residual-in_err-targets.result c.in_err-targets.field-0.0 _ c.from_residual-in_err-targets.ensures.1
-    (second_refuses (g.T.Texts.relations c.args.texts.now) (document_seen c.args.document.now) c.args.depth _ (g.T.Texts.relations c.definition_targets.new.texts) _ _ _ _ _ c.in_ok-definitions.ensures.keeps
-    c.in_ok-definitions.ensures.counts c.in_ok-definitions.ensures.told c.in_err-targets.ensures.refused)
+pub returns-in_err-unread-clause-refused : goal.returns-in_err-unread-clause-refused
+returns-in_err-unread-clause-refused g c =
+    if_err c.from_residual-in_err-unread.result c.in_err-unread.field-0.0 _ c.from_residual-in_err-unread.ensures.1
+    (refuses_later (g.T.Texts.relations c.args.texts.now) (document_seen c.args.document.now) c.args.depth _ (g.T.Texts.relations c.targets_with.new.texts) _ _ _ c.in_ok-table.ensures.keeps c.in_ok-table.ensures.counts
+    c.in_err-unread.ensures.refused)

@@ -1,8 +1,9 @@
 use Rattle.schema_types.specs.View.{schema_view}
 use Rattle.schema_tree.specs.Document.{view as document_seen}
-use Rattle.entry_trees.specs.View.{tree_view}
+use Rattle.entry_trees.specs.View.{table_view, tree_view}
+use Rattle.convert_trees.specs.Keeping.{kept_view}
 use Rattle.convert_trees.proofs.Here.{if_err}
-use Rattle.type_space.proofs.Told.{named_entry, named_told, named_refused}
+use Rattle.type_space.proofs.Told.{named_entry, named_found, named_refused}
 use Rattle.type_space.proofs.schema.found_at.Goals as goal
 
 pub returns-clause-entry : goal.returns-clause-entry
@@ -10,10 +11,10 @@ returns-clause-entry g c =
     named_entry (g.T.Texts.relations c.args.texts.now) (document_seen c.args.document.now) c.args.depth c.args.at.now (schema_view c.args.schema.now) _ _ c.name_at-wanted.ensures (tree_view c.in_ok-tree.tree)
     c.in_ok-tree.ensures.entry
 
-pub returns-clause-told : goal.returns-clause-told
-returns-clause-told g c =
-    named_told (g.T.Texts.relations c.args.texts.now) (document_seen c.args.document.now) c.args.depth c.args.at.now (schema_view c.args.schema.now) _ _ c.name_at-wanted.ensures _ _ c.nothing_kept-kept.ensures
-    c.in_ok-tree.ensures.told
+pub returns-clause-found : goal.returns-clause-found
+returns-clause-found g c =
+    named_found (g.T.Texts.relations c.args.texts.now) (document_seen c.args.document.now) c.args.depth c.args.at.now (schema_view c.args.schema.now) _ _ c.name_at-wanted.ensures (table_view c.args.known.now) _ (kept_view c.tree_at.new.kept)
+    c.nothing_kept-kept.ensures c.in_ok-tree.ensures.told
 
 pub returns-in_err-tree-clause-refused : goal.returns-in_err-tree-clause-refused
 returns-in_err-tree-clause-refused g c =
