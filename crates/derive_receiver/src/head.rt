@@ -126,7 +126,7 @@ pub(crate) fn head_replaced(
             if path.leading {
                 return Ok(Place { qself: None, path });
             }
-            let Path { segments, .. } = path;
+            let (_leading, segments) = path.into_parts();
             let place = head(alloc, own, is_ty, segments)?;
             Ok(place)
         }

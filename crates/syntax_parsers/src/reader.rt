@@ -133,7 +133,8 @@ fn parenthesised_ty(alloc: Global, mut elems: Vec<Ty>, comma: bool) -> Result<Ty
 fn expr_path_ty(path: ExprPath) -> Ty
     ensures { ty result ≡ qualified_ty (expr_path_view path) }
 {
-    qualified_path_ty(path.qself, path.path)
+    let (qself, path) = path.into_parts();
+    qualified_path_ty(qself, path)
 }
 
 #[cycle(read)]

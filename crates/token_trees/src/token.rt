@@ -25,10 +25,18 @@ pub enum Spacing {
 }
 
 /// An identifier or a keyword, with `r#` where it was written so.
-#[derive(Drop)]
 pub struct Ident {
     pub text: String,
     pub span: Span,
+}
+
+impl Drop for Ident {
+    fn drop(self) {
+        let Ident {
+            text: _text,
+            span: _,
+        } = self;
+    }
 }
 
 /// One punctuation character.
@@ -40,18 +48,35 @@ pub struct Punct {
 }
 
 /// What a literal is: a string without its quotes and escapes, decimal digits with `_` and what belongs to them, or another.
-#[derive(Drop)]
 pub enum Lit {
     Str { value: String, suffix: String },
     Int { digits: String },
     Other { text: String },
 }
 
+impl Drop for Lit {
+    fn drop(self) {
+        match self {
+            Lit::Str {
+                value: _value,
+                suffix: _suffix,
+            } => {}
+            Lit::Int { digits: _digits } => {}
+            Lit::Other { text: _text } => {}
+        }
+    }
+}
+
 /// A literal with its place.
-#[derive(Drop)]
 pub struct Literal {
     pub lit: Lit,
     pub span: Span,
+}
+
+impl Drop for Literal {
+    fn drop(self) {
+        let Literal { lit: _lit, span: _ } = self;
+    }
 }
 
 /// Token trees between two brackets.

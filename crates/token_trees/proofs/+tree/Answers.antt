@@ -20,8 +20,5 @@ token::TokenStream::drop-loop-tree-smaller-in_default-tree-2 t c = pop_smaller c
 pub token::TokenStream::drop-loop-tree-smaller-in_default-tree-3 : goal.token::TokenStream::drop-loop-tree-smaller-in_default-tree-3
 token::TokenStream::drop-loop-tree-smaller-in_default-tree-3 t c = pop_smaller c.loop-tree.left.items c.pop.new.self.items c.in-Some.tree c.in-Some.ensures.items
 
-pub token::TokenStream::drop-loop-tree-smaller-in_default-tree-4 : goal.token::TokenStream::drop-loop-tree-smaller-in_default-tree-4
-token::TokenStream::drop-loop-tree-smaller-in_default-tree-4 t c = pop_smaller c.loop-tree.left.items c.pop.new.self.items c.in-Some.tree c.in-Some.ensures.items
-
 pub token::TokenStream::drop-loop-tree-smaller : goal.token::TokenStream::drop-loop-tree-smaller
 token::TokenStream::drop-loop-tree-smaller t c = pop_smaller c.loop-tree.left.items c.pop.new.self.items c.in-Some.tree c.in-Some.ensures.items
