@@ -22,7 +22,6 @@ pub struct Slot {
 }
 
 /// What a slot is set to.
-#[derive(Drop)]
 pub enum Value {
     Flag,
     Plain(String),
@@ -34,6 +33,22 @@ pub enum Value {
     Path(Path),
     Function(ExprPath),
     Lifetimes(BTreeSet<Lifetime>),
+}
+
+impl Drop for Value {
+    fn drop(self) {
+        match self {
+            Value::Flag | Value::Rule(_) => {}
+            Value::Plain(_text) => {}
+            Value::Name(_name) => {}
+            Value::Default(_default) => {}
+            Value::Predicates(_predicates) => {}
+            Value::Ty(_ty) => {}
+            Value::Path(_path) => {}
+            Value::Function(_path) => {}
+            Value::Lifetimes(_lifetimes) => {}
+        }
+    }
 }
 
 /// What a meta does.
@@ -50,11 +65,20 @@ pub enum Act {
 }
 
 /// The first value of a slot, and the place of the meta that set it.
-#[derive(Drop)]
 pub struct Setting {
     pub slot: Slot,
     pub at: Span,
     pub value: Value,
+}
+
+impl Drop for Setting {
+    fn drop(self) {
+        let Setting {
+            slot: _,
+            at: _,
+            value: _value,
+        } = self;
+    }
 }
 
 impl Slot {

@@ -97,7 +97,7 @@ fn perform_one(
     ensures err { OnErr result (diagnostics cx.new ≡ diagnostics cx.old) }
 {
     match act {
-        Act::Tell(diagnostic) => cx.error_spanned_by(diagnostic.span, diagnostic.kind),
+        Act::Tell(diagnostic) => cx.push(diagnostic),
         Act::Set(slot, at, value) => set_one(alloc, cx, settings, Setting { slot, at, value }),
         Act::Offer(slot, value) => {
             let at = Span::call_site();

@@ -2,8 +2,8 @@
 use Rattle.std.proofs.Common.{◌≡◌, map, Option, Some, None, Vec, Box, Global, sym, ap, ◌∙◌}
 use Rattle.token_trees.specs.declared.token.TokenStream.{TokenStream}
 use Rattle.token_trees.specs.View.{stream}
-use Rattle.syntax_trees.specs.Syntax.{TyD, ty_array, ty_fn, ty_macro, ty_path, PathD, SegmentD, ArgumentsD, parens, GenericD, QSelfD, ExprD, ex_binary, ex_call, ex_cast, ex_field, ex_index, ex_unary, ExprPathD, expr_path, BoundD, tys_of, exprs_of}
-use Rattle.syntax_trees.specs.View.{ty, expr, arguments_view, path_view, expr_path_view, member_view, maybe_ty_view, maybe_qself_view, bound_step, expr_step, generic_step, arguments_step, ty_step, expr_path_step, path_step, segment_step, qself_step}
+use Rattle.syntax_trees.specs.Syntax.{TyD, ty_array, ty_fn, ty_macro, ty_path, PathD, SegmentD, ArgumentsD, parens, GenericD, QSelfD, ExprD, ex_binary, ex_call, ex_cast, ex_field, ex_index, ex_unary, ExprPathD, BoundD, tys_of, exprs_of}
+use Rattle.syntax_trees.specs.View.{ty, expr, arguments_view, path_view, member_view, maybe_ty_view, maybe_qself_view, bound_step, expr_step, generic_step, arguments_step, ty_step, expr_path_step, path_step, segment_step, qself_step}
 use Rattle.syntax_trees.specs.declared.tree.Bound.TheOpen.{Ty-F, Expr-F, PathArguments-F}
 use Rattle.syntax_trees.specs.declared.tree.Ty.{Ty, fold-roll-Ty}
 use Rattle.syntax_trees.specs.declared.tree.Ty.TheVariants as tys
@@ -14,7 +14,6 @@ use Rattle.syntax_trees.specs.declared.tree.PathArguments.TheVariants as args
 use Rattle.syntax_trees.specs.declared.tree.Path.{Path}
 use Rattle.syntax_trees.specs.declared.tree.QSelf.{QSelf}
 use Rattle.syntax_trees.specs.declared.tree.Member.{Member}
-use Rattle.syntax_trees.specs.declared.tree.ExprPath.{ExprPath, out-ExprPath, roll-ExprPath, roll-out-ExprPath, fold-roll-ExprPath}
 
 pub array_view : (t : Box Ty Global) (e : Box Expr Global) → ty (tys.Array t e) ≡ ty_array (ty t.value) (expr e.value)
 array_view t e = ap ty (sym (tys.rolls-Array t e)) ∙ fold-roll-Ty BoundD ExprD GenericD ArgumentsD TyD ExprPathD PathD SegmentD QSelfD bound_step expr_step generic_step arguments_step ty_step expr_path_step path_step segment_step qself_step (Ty-F.Array t e)
@@ -51,10 +50,3 @@ index_view e i = ap expr (sym (exprs.rolls-Index e i)) ∙ fold-roll-Expr BoundD
 
 pub unary_view : (s : TokenStream) (e : Box Expr Global) → expr (exprs.Unary s e) ≡ ex_unary (stream s) (expr e.value)
 unary_view s e = ap expr (sym (exprs.rolls-Unary s e)) ∙ fold-roll-Expr BoundD ExprD GenericD ArgumentsD TyD ExprPathD PathD SegmentD QSelfD bound_step expr_step generic_step arguments_step ty_step expr_path_step path_step segment_step qself_step (Expr-F.Unary s e)
-
-rolled : (q : Option (Box QSelf Global)) (p : Path) → expr_path_view (roll-ExprPath (record { qself = q; path = p })) ≡ expr_path (maybe_qself_view q) (path_view p)
-rolled None p = fold-roll-ExprPath BoundD ExprD GenericD ArgumentsD TyD ExprPathD PathD SegmentD QSelfD bound_step expr_step generic_step arguments_step ty_step expr_path_step path_step segment_step qself_step (record { qself = None; path = p })
-rolled (Some b) p = fold-roll-ExprPath BoundD ExprD GenericD ArgumentsD TyD ExprPathD PathD SegmentD QSelfD bound_step expr_step generic_step arguments_step ty_step expr_path_step path_step segment_step qself_step (record { qself = Some b; path = p })
-
-pub expr_path_out : (p : ExprPath) → expr_path_view p ≡ expr_path (maybe_qself_view (out-ExprPath p).qself) (path_view (out-ExprPath p).path)
-expr_path_out p = ap expr_path_view (sym (roll-out-ExprPath p)) ∙ rolled (out-ExprPath p).qself (out-ExprPath p).path

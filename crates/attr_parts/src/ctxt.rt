@@ -22,13 +22,21 @@ impl Ctxt {
         }
     }
 
+    /// A diagnostic, appended last. Where memory runs out, nothing changes.
+    pub fn push(&mut self, diagnostic: Diagnostic) -> Result<(), AllocError>
+        ensures ok { OnOk result (diagnostics self.new ≡ diagnostics self.old ++ diagnostic_view diagnostic ∷ []) }
+        ensures err { OnErr result (diagnostics self.new ≡ diagnostics self.old) }
+    {
+        self.errors.push(diagnostic)?;
+        Ok(())
+    }
+
     /// A diagnostic at that place, appended last. Where memory runs out, nothing changes.
     pub fn error_spanned_by(&mut self, at: Span, kind: DiagKind) -> Result<(), AllocError>
         ensures ok { OnOk result (diagnostics self.new ≡ diagnostics self.old ++ record { kind = kind_view kind; span = at } ∷ []) }
         ensures err { OnErr result (diagnostics self.new ≡ diagnostics self.old) }
     {
-        self.errors.push(Diagnostic { kind, span: at })?;
-        Ok(())
+        self.push(Diagnostic { kind, span: at })
     }
 
     /// An error of syntax, appended last. Where memory runs out, nothing changes.

@@ -9,7 +9,6 @@ use syntax_trees::SyntaxKind;
 use token_trees::Span;
 
 /// What is wrong with an item's attributes, or with the item (serde_derive's own errors).
-#[derive(Drop)]
 pub enum DiagKind {
     /// A second value of that attribute.
     Duplicate(String),
@@ -141,11 +140,90 @@ pub enum DiagKind {
     FromConflict,
 }
 
+impl Drop for DiagKind {
+    fn drop(self) {
+        match self {
+            DiagKind::Duplicate(_text)
+            | DiagKind::UnknownContainer(_text)
+            | DiagKind::UnknownVariant(_text)
+            | DiagKind::UnknownField(_text)
+            | DiagKind::UnknownRule(_text)
+            | DiagKind::NoLifetimes(_text)
+            | DiagKind::Halves(_text)
+            | DiagKind::Suffix(_text)
+            | DiagKind::BadPath(_text)
+            | DiagKind::BadLifetimes(_text)
+            | DiagKind::RepeatedLifetime(_text)
+            | DiagKind::NewtypeLast(_text)
+            | DiagKind::SkipSer(_text)
+            | DiagKind::SkipDe(_text)
+            | DiagKind::TagConflict(_text)
+            | DiagKind::SameTags(_text) => {}
+            DiagKind::RenameFieldsPlace
+            | DiagKind::UntaggedPlace
+            | DiagKind::DefaultUnit
+            | DiagKind::DefaultPlace
+            | DiagKind::DefaultPathUnit
+            | DiagKind::DefaultPathPlace
+            | DiagKind::TagPlace
+            | DiagKind::ContentPlace
+            | DiagKind::TagTuple
+            | DiagKind::UntaggedTag
+            | DiagKind::ContentAlone
+            | DiagKind::UntaggedContent
+            | DiagKind::UntaggedBoth
+            | DiagKind::TwoIdentifiers
+            | DiagKind::FieldIdPlace
+            | DiagKind::VariantIdPlace
+            | DiagKind::BorrowPlace
+            | DiagKind::NoLifetimeGiven
+            | DiagKind::Syntax(_)
+            | DiagKind::Union
+            | DiagKind::UntaggedOrder
+            | DiagKind::DefaultOrder(_)
+            | DiagKind::RemoteGeneric
+            | DiagKind::GetterEnum
+            | DiagKind::GetterRemote
+            | DiagKind::FlattenTuple
+            | DiagKind::FlattenNewtype
+            | DiagKind::OtherIdentifier
+            | DiagKind::OtherUntagged
+            | DiagKind::OtherLast
+            | DiagKind::OtherUnit
+            | DiagKind::FieldIdUnit
+            | DiagKind::VariantIdUnit
+            | DiagKind::TransparentFrom
+            | DiagKind::TransparentTryFrom
+            | DiagKind::TransparentInto
+            | DiagKind::TransparentEnum
+            | DiagKind::TransparentUnit
+            | DiagKind::TransparentMany
+            | DiagKind::TransparentNoneSer
+            | DiagKind::TransparentNoneDe
+            | DiagKind::FromConflict => {}
+            DiagKind::LacksLifetime(_text, _other_text)
+            | DiagKind::ExpectedString(_text, _other_text)
+            | DiagKind::BadType(_text, _other_text)
+            | DiagKind::SkipSerField(_text, _other_text)
+            | DiagKind::SkipIfField(_text, _other_text)
+            | DiagKind::SkipDeField(_text, _other_text) => {}
+        }
+    }
+}
+
 /// What is wrong, and where.
-#[derive(Drop)]
 pub struct Diagnostic {
     pub kind: DiagKind,
     pub span: Span,
+}
+
+impl Drop for Diagnostic {
+    fn drop(self) {
+        let Diagnostic {
+            kind: _kind,
+            span: _,
+        } = self;
+    }
 }
 
 // The name of the kind of syntax error.

@@ -19,10 +19,18 @@ use syntax_trees::LitStr;
 use token_trees::{Ident, Lit, Literal, Span, TokenStream, TokenTree};
 
 /// A name, and the place that it comes from. Names are compared by their values alone.
-#[derive(Drop)]
 pub struct Name {
     pub value: String,
     pub span: Span,
+}
+
+impl Drop for Name {
+    fn drop(self) {
+        let Name {
+            value: _value,
+            span: _,
+        } = self;
+    }
 }
 
 impl Name {

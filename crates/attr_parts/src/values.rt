@@ -26,7 +26,6 @@ pub enum TagType {
 }
 
 /// What a value is where it is left out.
-#[derive(Drop)]
 pub enum Default {
     /// It may not be left out.
     None,
@@ -34,6 +33,15 @@ pub enum Default {
     Default,
     /// What that function answers.
     Path(ExprPath),
+}
+
+impl Drop for Default {
+    fn drop(self) {
+        match self {
+            Default::None | Default::Default => {}
+            Default::Path(_expr_path) => {}
+        }
+    }
 }
 
 impl Identifier {

@@ -201,7 +201,7 @@ fn plain_segment(alloc: Global, name: Symbol, at: Span) -> Result<PathSegment, A
 fn longer(path: Path, segment: PathSegment) -> Result<Path, AllocError>
     ensures { IfOk result (λ p. path_view p ≡ longer (path_view path) (segment_view segment)) }
 {
-    let Path { leading, segments } = path;
+    let (leading, segments) = path.into_parts();
     let mut segments = segments;
     segments.push(segment)?;
     Ok(Path { leading, segments })
@@ -212,7 +212,8 @@ fn in_module(alloc: Global, from: &ExprPath, name: Symbol, at: Span) -> Result<E
     ensures { IfOk result (λ p. expr_path_view p ≡ in_module (expr_path_view from.now) name.0.now at) }
 {
     let segment = plain_segment(alloc, name, at)?;
-    let ExprPath { qself, path } = from.try_clone(alloc)?;
+    let copy = from.try_clone(alloc)?;
+    let (qself, path) = copy.into_parts();
     let path = longer(path, segment)?;
     Ok(ExprPath { qself, path })
 }

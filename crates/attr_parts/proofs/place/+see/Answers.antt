@@ -13,7 +13,8 @@ use Rattle.syntax_trees.specs.Syntax.{TyD, ty_array, ty_fn, ty_macro, ty_path, A
 use Rattle.syntax_trees.specs.View.{ty, bound_view, segment_view, generic_view, arguments_view, path_view, expr as expr_view, expr_path_view, member_view, maybe_ty_view, maybe_qself_view}
 use Rattle.attr_parts.specs.Places.{ty_spans, tys_spans, output_spans, front_spans, path_spans, member_spans, tokens_spans, arguments_spans, bound_spans, bounds_spans, segment_spans, segments_spans, generic_spans, generics_spans, expr_spans, exprs_spans, expr_path_spans, reached}
 use Rattle.attr_parts.proofs.Reached.{next_reached, then_reached, two_reached}
-use Rattle.attr_parts.proofs.Views.{array_view, fn_view, macro_view, path_type_view, parens_view, binary_view, call_view, cast_view, field_of_view, index_view, unary_view, expr_path_out}
+use Rattle.attr_parts.proofs.Views.{array_view, fn_view, macro_view, path_type_view, parens_view, binary_view, call_view, cast_view, field_of_view, index_view, unary_view}
+use Rattle.syntax_trees.proofs.Views.{expr_path_out}
 use Rattle.attr_parts.proofs.place.+see.Goals as goal
 
 pub see_tys-loop-item-preserved : goal.see_tys-loop-item-preserved
