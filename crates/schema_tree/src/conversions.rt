@@ -16,15 +16,24 @@ pub struct Conversions {
 }
 
 /// What the values of an item must meet.
-#[derive(Debug, Drop)]
+#[derive(Debug)]
 pub struct Constraint {
     /// The item's name.
     pub item: String,
     pub rule: Rule,
 }
 
+impl Drop for Constraint {
+    fn drop(self) {
+        let Constraint {
+            item: _item,
+            rule: _rule,
+        } = self;
+    }
+}
+
 /// What a scalar must meet.
-#[derive(Debug, Drop)]
+#[derive(Debug)]
 pub enum Rule {
     /// A text with at least `least` and at most `most` characters. The patterns of `all` are asked together, and one of
     /// `any`, where that isn't empty.
@@ -38,6 +47,20 @@ pub enum Rule {
     Allow(Vec<Value>),
     /// None of these scalars.
     Deny(Vec<Value>),
+}
+
+impl Drop for Rule {
+    fn drop(self) {
+        match self {
+            Rule::Text {
+                least: _,
+                most: _,
+                all: _all,
+                any: _any,
+            } => {}
+            Rule::Allow(_values) | Rule::Deny(_values) => {}
+        }
+    }
 }
 
 impl Rule {

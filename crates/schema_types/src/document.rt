@@ -18,10 +18,18 @@ use std::collections::btree_map::Keys;
 use std::marker::Model;
 
 /// A definition, and the keyword that it stands under: `$defs`, or else `definitions`.
-#[derive(Drop)]
 pub struct Definition {
     pub under_defs: bool,
     pub schema: Schema,
+}
+
+impl Drop for Definition {
+    fn drop(self) {
+        let Definition {
+            under_defs: _,
+            schema: _schema,
+        } = self;
+    }
 }
 
 /// A schema document: its setting, the root, and the definitions in the order of their names, whichever of the two

@@ -8,9 +8,15 @@ use std::marker::Model;
 
 /// A place in a document or a value, by the steps from its root. A step is a keyword, a member name, or the decimal
 /// digits of a place in a list.
-#[derive(Debug, Drop)]
+#[derive(Debug)]
 pub struct Location {
     pub steps: Vec<String>,
+}
+
+impl Drop for Location {
+    fn drop(self) {
+        let Location { steps: _steps } = self;
+    }
 }
 
 impl Model for Location {
@@ -88,9 +94,17 @@ fn push_escaped(text: &mut String, step: &str) -> Result<(), AllocError>
 }
 
 /// A walk: the places that it comes by, one after the other.
-#[derive(Debug, Drop)]
+#[derive(Debug)]
 pub struct Walk {
     pub locations: Vec<Location>,
+}
+
+impl Drop for Walk {
+    fn drop(self) {
+        let Walk {
+            locations: _locations,
+        } = self;
+    }
 }
 
 impl Model for Walk {

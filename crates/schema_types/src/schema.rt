@@ -33,10 +33,18 @@ pub struct SchemaObject {
 }
 
 /// What `type` holds: a name, or a list of names.
-#[derive(Drop)]
 pub enum Types {
     One(InstanceType),
     Many(Vec<InstanceType>),
+}
+
+impl Drop for Types {
+    fn drop(self) {
+        match self {
+            Types::One(_) => {}
+            Types::Many(_instance_types) => {}
+        }
+    }
 }
 
 /// `allOf`, `anyOf`, `oneOf` and `not`, which judge the same value as the schema that holds them; and whether one of
@@ -62,11 +70,20 @@ pub struct NumberValidation {
 }
 
 /// Keywords of texts. Lengths count characters; a text has each of the patterns.
-#[derive(Drop)]
 pub struct StringValidation {
     pub max_length: Option<u32>,
     pub min_length: Option<u32>,
     pub patterns: Vec<String>,
+}
+
+impl Drop for StringValidation {
+    fn drop(self) {
+        let StringValidation {
+            max_length: _,
+            min_length: _,
+            patterns: _patterns,
+        } = self;
+    }
 }
 
 /// Keywords of lists.
