@@ -75,9 +75,14 @@ impl<L: StepLedger> Steps<L> {
 }
 
 /// A name. It can be compared only by a comparison that is counted.
-#[derive(Drop)]
 pub(crate) struct Name {
     text: String,
+}
+
+impl Drop for Name {
+    fn drop(self) {
+        let Name { text: _text } = self;
+    }
 }
 
 impl Model for Name {

@@ -2,7 +2,6 @@
 use schema_defs::Format;
 
 /// A type, as a reader of JSON values takes it.
-#[derive(Drop)]
 pub enum ValueType {
     Boolean,
     /// Whole numbers from the least to the greatest.
@@ -25,4 +24,27 @@ pub enum ValueType {
     Item(String),
     /// A type that no reader knows.
     Outside,
+}
+
+impl Drop for ValueType {
+    #[cycle(let_go)]
+    fn drop(self) {
+        match self {
+            ValueType::Boolean
+            | ValueType::Integer {
+                least: _,
+                greatest: _,
+            }
+            | ValueType::Text
+            | ValueType::Native(_)
+            | ValueType::Any
+            | ValueType::Unit
+            | ValueType::Outside => {}
+            ValueType::Optional(_inner) | ValueType::Boxed(_inner) => {}
+            ValueType::List(_items) | ValueType::Set(_items) | ValueType::Array(_items, _) => {}
+            ValueType::Map(_names, _values) => {}
+            ValueType::Tuple(_items) => {}
+            ValueType::Item(_name) => {}
+        }
+    }
 }

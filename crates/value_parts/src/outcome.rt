@@ -88,9 +88,9 @@ fn longer(alloc: Global, name: &str, path: Location) -> Result<Location, AllocEr
     ensures { IfOk result (λ l. l ≡ name.now ∷ path) }
 {
     let step = String::from_str(alloc, name)?;
-    let mut steps = path.steps;
-    steps.insert(0, step)?;
-    Ok(Location { steps })
+    let mut path = path;
+    path.steps.insert(0, step)?;
+    Ok(path)
 }
 
 /// What a member gives, at the object.
