@@ -22,7 +22,7 @@ pub fn one_type_is_left(alloc: Global) -> Result<bool, AllocError> {
         &Some(Types::One(InstanceType::Text)),
         &Some(Types::Many(kinds)),
     )?;
-    Ok(matches!(found, Some(Some(Types::One(InstanceType::Text)))))
+    Ok(matches!(&found, Some(Some(Types::One(InstanceType::Text)))))
 }
 
 /// Whether an address of either kind and one of a kind are that kind, without a note. It says true.

@@ -1,0 +1,15 @@
+//! Merging the keywords of members, but for the merges of the schemas in them: what is left to merge, and what is made of the merges.
+#![tactic(auto)]
+
+mod entries;
+pub mod examples;
+mod gathered;
+mod lookups;
+mod made;
+mod plan;
+mod sides;
+
+pub use gathered::{Gathered, all_gathered, gather, none_gathered};
+pub use made::{made_members, or_false};
+pub use plan::{Bound, Entry, Frame, MemberPlan, Members, RestPlan};
+pub use sides::{names_mix, two_members};
