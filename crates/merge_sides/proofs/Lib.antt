@@ -1,0 +1,10 @@
+pub mod Going
+pub mod Refusals
+pub mod Behinds
+pub mod Referrals
+pub mod Made
+pub mod Entering
+pub mod Standing
+pub mod Meeting
+pub mod Asking
+pub mod Leaving

@@ -1,0 +1,4 @@
+pub mod Leaves
+pub mod Met
+pub mod Referring
+pub mod Behind
