@@ -8,7 +8,9 @@ ghost use Rattle.convert_defs.specs.Owners.{each_part as each_part_of, is_by_pla
 ghost use Rattle.row_types.specs.View.{note_view, part_view, row_view, finding_view};
 ghost use Rattle.array_rows.specs.Parts.{rules_in, places_in, rest_in, contains_in};
 
-use row_types::{Finding, Keyword, Note, Part, Row, Source, Steps, anything, noted, part_under};
+use row_types::{
+    Finding, Keyword, Note, Part, PartKind, Row, Source, Steps, anything, noted, part_under,
+};
 use schema_types::{ArrayValidation, Items, Schema};
 use std::alloc::{AllocError, Global};
 
@@ -26,7 +28,11 @@ fn item_part<'d>(items: &'d Items) -> Part<'d>
     ensures { part_view result ≡ each_part_of (items_view items.now) }
 {
     match items {
-        Items::One(schema) => Part::Child(Steps::Under(Keyword::Items), Source::Written(schema)),
+        Items::One(schema) => Part {
+            kind: PartKind::Child,
+            steps: Steps::Under(Keyword::Items),
+            source: Source::Written(schema),
+        },
         Items::Many(_) => anything(),
     }
 }
@@ -67,10 +73,11 @@ fn listed_parts<'d>(
         if more == 0 {
             return Ok(parts);
         }
-        parts.push(Part::Child(
-            Steps::Placed(Keyword::Items, place),
-            Source::Written(schema),
-        ))?;
+        parts.push(Part {
+            kind: PartKind::Child,
+            steps: Steps::Placed(Keyword::Items, place),
+            source: Source::Written(schema),
+        })?;
         left = rest;
         place += 1;
         more -= 1;
@@ -127,7 +134,11 @@ fn fixed_items<'d>(
 {
     match items {
         Items::One(schema) => Ok(Row::Array(
-            Part::Child(Steps::Under(Keyword::Items), Source::Written(schema)),
+            Part {
+                kind: PartKind::Child,
+                steps: Steps::Under(Keyword::Items),
+                source: Source::Written(schema),
+            },
             places,
         )),
         Items::Many(listed) => {

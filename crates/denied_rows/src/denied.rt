@@ -11,9 +11,9 @@ ghost use Rattle.row_types.specs.Given.{plain_view, same_view, lists_view, named
 ghost use Rattle.row_types.specs.View.{part_view, cause_view, finding_view};
 
 use row_types::{
-    Cause, Finding, GivenValues, Keyword, Keywords, Leaf, NoteKind, Part, Row, RowRule, Source,
-    Steps, Way, has_one_type, is_without_same, keywords_of, less_enum, made, no_keyword, no_others,
-    noted, of_type, plainly, refused, with_note,
+    Cause, Finding, GivenValues, Keyword, Keywords, Leaf, NoteKind, Part, PartKind, Row, RowRule,
+    Source, Steps, Way, has_one_type, is_without_same, keywords_of, less_enum, made, no_keyword,
+    no_others, noted, of_type, plainly, refused, with_note,
 };
 use scalar_rows::{ValueKind, all_of, any_of};
 use schema_types::{InstanceType, Schema};
@@ -106,10 +106,11 @@ fn lists_alone(keywords: &Keywords<'_>) -> bool
 fn under_not<'d>(alloc: Global, keywords: &Keywords<'d>) -> Result<Part<'d>, AllocError>
     ensures { IfOk result (λ p. part_view p ≡ under_not_of (object (less_enum_of (plain_view keywords.now)) (same_view keywords.now) (lists_view keywords.now) (named_view keywords.now))) }
 {
-    Ok(Part::Child(
-        Steps::Under(Keyword::Not),
-        Source::Made(Box::new(alloc, less_enum(keywords))?),
-    ))
+    Ok(Part {
+        kind: PartKind::Child,
+        steps: Steps::Under(Keyword::Not),
+        source: Source::Made(Box::new(alloc, less_enum(keywords))?),
+    })
 }
 
 fn not_listed<'d>(

@@ -10,7 +10,7 @@ ghost use Rattle.member_rows.specs.Members.{member_view, own_rows, ruled_branche
 
 use crate::members::Member;
 use enum_shapes::{Case, external_shape, object_shape};
-use row_types::{Note, NoteKind, Part, Source, Steps, VariantBody, VariantRow, Way};
+use row_types::{Note, NoteKind, Part, PartKind, Source, Steps, VariantBody, VariantRow, Way};
 use schema_types::Schema;
 use std::alloc::{AllocError, Global};
 
@@ -18,10 +18,11 @@ fn case_body<'d>(member: &Member<'d>, case: &Case<'d>) -> VariantBody<'d>
     ensures { body_view result ≡ case_body_of (member_view member.now).0 (case_view case.now).name (case_view case.now).content }
 {
     match case.content {
-        Some(schema) => VariantBody::Part(Part::OfBranch(
-            Steps::Branch(member.keyword, member.index, case.name),
-            Source::Written(schema),
-        )),
+        Some(schema) => VariantBody::Part(Part {
+            kind: PartKind::OfBranch,
+            steps: Steps::Branch(member.keyword, member.index, case.name),
+            source: Source::Written(schema),
+        }),
         None => VariantBody::Unit,
     }
 }

@@ -10,7 +10,7 @@ ghost use Rattle.member_rows.specs.Members.{member_view};
 use crate::members::Member;
 use crate::tagged::{members_of_schema, tag_text};
 use object_rows::{field_state, is_required, may_be_null};
-use row_types::{FieldRow, Part, Source, Steps, VariantBody, VariantRow};
+use row_types::{FieldRow, Part, PartKind, Source, Steps, VariantBody, VariantRow};
 use schema_types::{Schema, Setting};
 use std::alloc::{AllocError, Global};
 use std::collections::{BTreeMap, BTreeSet};
@@ -27,10 +27,11 @@ fn field_of<'d>(
     let is_required = is_required(required, name);
     FieldRow {
         name,
-        part: Part::OfBranch(
-            Steps::Branch(member.keyword, member.index, name),
-            Source::Written(schema),
-        ),
+        part: Part {
+            kind: PartKind::OfBranch,
+            steps: Steps::Branch(member.keyword, member.index, name),
+            source: Source::Written(schema),
+        },
         state: field_state(is_required, schema),
         nullable: may_be_null(setting) && !is_required,
     }

@@ -7,7 +7,7 @@ ghost use Rattle.convert_defs.specs.Table.{member_part, lone_part as lone_part_o
 ghost use Rattle.row_types.specs.View.{keyword_view, part_view, variant_view, branch_view};
 ghost use Rattle.member_rows.specs.Members.{member_view};
 
-use row_types::{Branch, Keyword, Part, Source, Steps, VariantBody, VariantRow};
+use row_types::{Branch, Keyword, Part, PartKind, Source, Steps, VariantBody, VariantRow};
 use schema_types::Schema;
 use std::alloc::{AllocError, Global};
 
@@ -46,20 +46,22 @@ pub fn members_in<'d>(
 pub fn child_part<'d>(member: &Member<'d>) -> Part<'d>
     ensures { part_view result ≡ member_part (member_view member.now) }
 {
-    Part::Child(
-        Steps::Placed(member.keyword, member.index),
-        Source::Written(member.schema),
-    )
+    Part {
+        kind: PartKind::Child,
+        steps: Steps::Placed(member.keyword, member.index),
+        source: Source::Written(member.schema),
+    }
 }
 
 /// The member in the place of the schema. It takes no memory.
 pub fn lone_part<'d>(member: &Member<'d>) -> Part<'d>
     ensures { part_view result ≡ lone_part_of (member_view member.now) }
 {
-    Part::Lone(
-        Steps::Placed(member.keyword, member.index),
-        Source::Written(member.schema),
-    )
+    Part {
+        kind: PartKind::Lone,
+        steps: Steps::Placed(member.keyword, member.index),
+        source: Source::Written(member.schema),
+    }
 }
 
 /// The members as children.

@@ -7,7 +7,9 @@ ghost use Rattle.row_types.specs.View.{state_view, field_view, outside_view};
 ghost use Rattle.object_rows.specs.Parts.{field_of};
 
 use crate::members::{is_property, is_required, keeps_rest};
-use row_types::{FieldRow, FieldState, Keyword, OutsideRow, Part, Source, Steps, part_under};
+use row_types::{
+    FieldRow, FieldState, Keyword, OutsideRow, Part, PartKind, Source, Steps, part_under,
+};
 use schema_types::{Schema, Setting};
 use serde_json::Value;
 use std::alloc::{AllocError, Global};
@@ -69,10 +71,11 @@ fn property_field<'d>(
     let is_required = is_required(required, name);
     FieldRow {
         name,
-        part: Part::Child(
-            Steps::Named(Keyword::Properties, name),
-            Source::Written(schema),
-        ),
+        part: Part {
+            kind: PartKind::Child,
+            steps: Steps::Named(Keyword::Properties, name),
+            source: Source::Written(schema),
+        },
         state: field_state(is_required, schema),
         nullable: may_be_null(setting) && !is_required,
     }

@@ -9,8 +9,9 @@ ghost use Rattle.row_types.specs.Given.{plain_view, same_view, lists_view, named
 ghost use Rattle.row_types.specs.View.{part_view, row_view};
 
 use row_types::{
-    Cause, GivenValues, Keyword, Keywords, Part, Row, Source, Steps, has_type, is_without_lists,
-    is_without_named, is_without_same, keywords_of, made, no_keyword, of_type, part_under,
+    Cause, GivenValues, Keyword, Keywords, Part, PartKind, Row, Source, Steps, has_type,
+    is_without_lists, is_without_named, is_without_same, keywords_of, made, no_keyword, of_type,
+    part_under,
 };
 use scalar_rows::{ValueKind, all_of};
 use schema_types::{InstanceType, ObjectValidation, Schema};
@@ -84,10 +85,11 @@ fn part_of_names<'d>(alloc: Global, schema: &'d Schema) -> Result<Part<'d>, Allo
             let part = any_text(alloc)?;
             Ok(part)
         }
-        Schema::Object(_) => Ok(Part::Child(
-            Steps::Under(Keyword::PropertyNames),
-            Source::Written(schema),
-        )),
+        Schema::Object(_) => Ok(Part {
+            kind: PartKind::Child,
+            steps: Steps::Under(Keyword::PropertyNames),
+            source: Source::Written(schema),
+        }),
     }
 }
 
@@ -129,10 +131,11 @@ pub fn pattern_row<'d>(patterns: &'d BTreeMap<String, Schema>) -> Row<'d>
     match entries.next() {
         Some((pattern, schema)) => Row::PatternMap(
             patterns,
-            Part::Child(
-                Steps::Named(Keyword::PatternProperties, pattern.as_str()),
-                Source::Written(schema),
-            ),
+            Part {
+                kind: PartKind::Child,
+                steps: Steps::Named(Keyword::PatternProperties, pattern.as_str()),
+                source: Source::Written(schema),
+            },
         ),
         None => Row::Refused(Cause::Names),
     }

@@ -24,7 +24,8 @@ use Rattle.row_types.specs.declared.part.Keyword.TheVariants as keywords
 use Rattle.row_types.specs.declared.part.Steps.{Steps}
 use Rattle.row_types.specs.declared.part.Steps.TheVariants as steps
 use Rattle.row_types.specs.declared.part.Part.{Part}
-use Rattle.row_types.specs.declared.part.Part.TheVariants as parts
+use Rattle.row_types.specs.declared.part.PartKind.{PartKind}
+use Rattle.row_types.specs.declared.part.PartKind.TheVariants as parts
 use Rattle.row_types.specs.declared.part.FieldRow.{FieldRow}
 use Rattle.row_types.specs.declared.part.FieldState.{FieldState}
 use Rattle.row_types.specs.declared.part.FieldState.TheVariants as states
@@ -75,11 +76,14 @@ steps_view (steps.Branch k i n) = keyword_view k ∷ place i ∷ codes "properti
 
 -- ---- parts
 
+abbrev pub part_by : PartKind → Location → Schema → defs.Part
+part_by parts.Child l s = defs.child l s
+part_by parts.OfBranch l s = defs.of_branch l s
+part_by parts.Lone l s = defs.lone l s
+part_by parts.Made l s = defs.made s
+
 abbrev pub part_view : Part → defs.Part
-part_view (parts.Child l s) = defs.child (steps_view l) (source_view s)
-part_view (parts.OfBranch l s) = defs.of_branch (steps_view l) (source_view s)
-part_view (parts.Lone l s) = defs.lone (steps_view l) (source_view s)
-part_view (parts.Made s) = defs.made (source_view s)
+part_view p = part_by p.kind (steps_view p.steps) (source_view p.source)
 
 abbrev pub state_view : FieldState → State
 state_view states.Required = required

@@ -17,8 +17,8 @@ pub use given::{GivenTypes, GivenValues, Keywords, Source, keywords_of, no_keywo
 pub use leaf::Leaf;
 pub use notes::{made, with_note};
 pub use part::{
-    FieldRow, FieldState, Keyword, OutsideRow, Part, Steps, VariantBody, VariantRow, anything,
-    part_under,
+    FieldRow, FieldState, Keyword, OutsideRow, Part, PartKind, Steps, VariantBody, VariantRow,
+    anything, part_under,
 };
 pub use row::{Closing, Row, RowRule, TagRow};
 pub use standing::{

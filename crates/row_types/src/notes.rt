@@ -7,7 +7,7 @@ ghost use Rattle.row_types.specs.View.{note_view, way_view, kind_view, part_view
 
 use crate::finding::{Note, NoteKind, Way};
 use crate::given::{Keywords, Source};
-use crate::part::{Part, Steps};
+use crate::part::{Part, PartKind, Steps};
 use std::alloc::{AllocError, Global};
 
 /// The notes, and one more at the schema itself where it is due.
@@ -34,5 +34,9 @@ pub fn with_note<'d>(
 pub fn made<'d>(alloc: Global, keywords: Keywords<'d>) -> Result<Part<'d>, AllocError>
     ensures { IfOk result (λ p. part_view p ≡ made_of (keywords_view keywords.entry)) }
 {
-    Ok(Part::Made(Source::Made(Box::new(alloc, keywords)?)))
+    Ok(Part {
+        kind: PartKind::Made,
+        steps: Steps::Here,
+        source: Source::Made(Box::new(alloc, keywords)?),
+    })
 }

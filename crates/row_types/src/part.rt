@@ -37,17 +37,25 @@ pub enum Steps<'d> {
     Branch(Keyword, usize, &'d str),
 }
 
-/// A schema that a row converts.
-#[derive(Drop)]
-pub enum Part<'d> {
+/// How a part stands to the schema that a row converts.
+#[derive(Clone, Copy)]
+pub enum PartKind {
     /// A child, which has a name of its own.
-    Child(Steps<'d>, Source<'d>),
+    Child,
     /// A child of a branch.
-    OfBranch(Steps<'d>, Source<'d>),
+    OfBranch,
     /// The only member of a list, which stands in the place of the schema.
-    Lone(Steps<'d>, Source<'d>),
-    /// A schema in the place of this one.
-    Made(Source<'d>),
+    Lone,
+    /// A schema in the place of this one, no step away.
+    Made,
+}
+
+/// A schema that a row converts, and the steps to it.
+#[derive(Drop)]
+pub struct Part<'d> {
+    pub kind: PartKind,
+    pub steps: Steps<'d>,
+    pub source: Source<'d>,
 }
 
 /// A field of a struct. `nullable` says that null may stand for the member's absence.
@@ -94,7 +102,11 @@ pub enum VariantBody<'d> {
 pub fn anything<'d>() -> Part<'d>
     ensures { part_view result ≡ anything_of }
 {
-    Part::Made(Source::Bool(true))
+    Part {
+        kind: PartKind::Made,
+        steps: Steps::Here,
+        source: Source::Bool(true),
+    }
 }
 
 /// The part of the schema under a keyword, or any value where none stands. It takes no memory.
@@ -102,7 +114,11 @@ pub fn part_under<'d>(keyword: Keyword, schema: &'d Option<Box<Schema>>) -> Part
     ensures { part_view result ≡ part_at (keyword_view keyword) (maybe_view schema.now) }
 {
     match schema {
-        Some(schema) => Part::Child(Steps::Under(keyword), Source::Written(schema)),
+        Some(schema) => Part {
+            kind: PartKind::Child,
+            steps: Steps::Under(keyword),
+            source: Source::Written(schema),
+        },
         None => anything(),
     }
 }

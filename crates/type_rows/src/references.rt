@@ -13,8 +13,8 @@ ghost use Rattle.row_types.specs.View.{part_view, finding_view};
 ghost use Rattle.type_rows.specs.Line.{line};
 
 use row_types::{
-    Finding, GivenTypes, Keywords, Part, Row, Source, is_without_same, less_reference, made,
-    no_others, plainly, same_type,
+    Finding, GivenTypes, Keywords, Part, PartKind, Row, Source, Steps, is_without_same,
+    less_reference, made, no_others, plainly, same_type,
 };
 use schema_tree::Document;
 use schema_types::{InstanceType, Schema, Types};
@@ -85,7 +85,11 @@ fn target_parts<'d>(
     let mut parts = Vec::new(alloc);
     match document.target(reference) {
         Some(schema) => {
-            parts.push(Part::Made(Source::Written(schema)))?;
+            parts.push(Part {
+                kind: PartKind::Made,
+                steps: Steps::Here,
+                source: Source::Written(schema),
+            })?;
             Ok(parts)
         }
         None => Ok(parts),
