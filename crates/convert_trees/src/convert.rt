@@ -32,7 +32,7 @@ use crate::stated::check_stated;
 use crate::unread::keep_unless;
 use entry_trees::Tree;
 use row_trees::row_tree;
-use row_types::{Branch, Finding, Part, Row, Source, Steps};
+use row_types::{Branch, Finding, Part, PartKind, Row, Source, Steps};
 use schema_rows::finding;
 use schema_tree::{Fault, Texts};
 use std::collections::VecDeque;
@@ -335,15 +335,12 @@ fn convert_part<'d, T: Texts>(
     ensures keeps { T.relations texts.new ≡ T.relations texts.old }
     ensures counts { T.faults texts.old ≤ T.faults texts.new }
 {
-    match part {
-        Part::Child(steps, source) => {
-            one_on(scope, texts, kept, trail, *steps, left, None, source)
-        }
-        Part::OfBranch(steps, source) => { two_on(scope, texts, kept, trail, *steps, left, source) }
-        Part::Lone(steps, source) => {
-            one_on(scope, texts, kept, trail, *steps, left, handed, source)
-        }
-        Part::Made(source) => { convert(scope, texts, kept, trail, left, made, handed, source) }
+    let source = &part.source;
+    match part.kind {
+        PartKind::Child => one_on(scope, texts, kept, trail, part.steps, left, None, source),
+        PartKind::OfBranch => two_on(scope, texts, kept, trail, part.steps, left, source),
+        PartKind::Lone => one_on(scope, texts, kept, trail, part.steps, left, handed, source),
+        PartKind::Made => convert(scope, texts, kept, trail, left, made, handed, source),
     }
 }
 

@@ -10,7 +10,7 @@ ghost use Rattle.convert_trees.specs.Told.{TellsStated};
 
 use crate::places::{location_of, with_steps};
 use crate::scope::Scope;
-use row_types::{FieldRow, FieldState, Part, Row, Steps, VariantBody, VariantRow};
+use row_types::{FieldRow, FieldState, Part, PartKind, Row, Steps, VariantBody, VariantRow};
 use schema_tree::{Fault, UnsupportedKind};
 use schema_types::Location;
 use std::alloc::AllocError;
@@ -18,11 +18,11 @@ use std::alloc::AllocError;
 fn steps_to<'d>(part: &Part<'d>) -> Steps<'d>
     ensures { steps_view result ≡ steps_to_part (part_view part.now) }
 {
-    match part {
-        Part::Child(steps, _) => *steps,
-        Part::OfBranch(steps, _) => *steps,
-        Part::Lone(steps, _) => *steps,
-        Part::Made(_) => Steps::Here,
+    match part.kind {
+        PartKind::Child => part.steps,
+        PartKind::OfBranch => part.steps,
+        PartKind::Lone => part.steps,
+        PartKind::Made => Steps::Here,
     }
 }
 

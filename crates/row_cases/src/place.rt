@@ -1,5 +1,5 @@
 //! Places and parts as text.
-use row_types::{Keyword, Part, Source, Steps};
+use row_types::{Keyword, Part, PartKind, Source, Steps};
 use std::alloc::AllocError;
 use std::fmt::Write;
 
@@ -45,14 +45,14 @@ fn keyword_word(keyword: Keyword) -> &'static str {
 
 /// Where the part stands, or that it is made.
 pub(crate) fn show_part(out: &mut String, part: &Part<'_>) -> Result<(), AllocError> {
-    match part {
-        Part::Child(steps, _) => show_place(out, *steps),
-        Part::OfBranch(steps, _) => show_place(out, *steps),
-        Part::Lone(steps, _) => {
+    match part.kind {
+        PartKind::Child => show_place(out, part.steps),
+        PartKind::OfBranch => show_place(out, part.steps),
+        PartKind::Lone => {
             out.push_str(" lone")?;
-            show_place(out, *steps)
+            show_place(out, part.steps)
         }
-        Part::Made(source) => out.push_str(made_word(source)),
+        PartKind::Made => out.push_str(made_word(&part.source)),
     }
 }
 

@@ -4,9 +4,9 @@ use Rattle.schema_tree.specs.Document.{view as document_seen}
 use Rattle.schema_tree.specs.Fault.{fault_view}
 use Rattle.convert_defs.specs.Convert.{Handed, named_by, tree}
 use Rattle.entry_trees.specs.View.{tree_view}
-use Rattle.row_types.specs.declared.part.Part.{Part as CodePart}
+use Rattle.row_types.specs.declared.part.PartKind.{PartKind}
 use Rattle.row_types.specs.Given.{source_view}
-use Rattle.row_types.specs.View.{finding_view, part_view, row_view}
+use Rattle.row_types.specs.View.{finding_view, part_by, part_view, row_view}
 use Rattle.row_trees.specs.Build.{built}
 use Rattle.convert_trees.specs.Keeping.{kept_view}
 use Rattle.convert_trees.specs.Places.{place_at, trail_count}
@@ -338,7 +338,7 @@ convert_part-returns-in-Child-clause-entry g t c =
     let most = c.args.scope.now.depth in
     let start = c.args.scope.now.start.now in
     let l = place_at start c.args.trail.now.items in
-    subst (λ (p : CodePart). IfOk c.one_on.result (λ e. tree_view e ≡ converted r d n c.args.made h (part_view p))) (sym c.in-Child.is) c.one_on.ensures.entry
+    subst (λ (k : PartKind). IfOk c.one_on.result (λ e. tree_view e ≡ converted r d n c.args.made h (part_by k (steps_view c.args.part.now.steps) (source_view c.args.part.now.source)))) (sym c.in-Child.is) c.one_on.ensures.entry
 
 pub convert_part-returns-in-Child-clause-told : goal.convert_part-returns-in-Child-clause-told
 convert_part-returns-in-Child-clause-told g t c =
@@ -349,7 +349,7 @@ convert_part-returns-in-Child-clause-told g t c =
     let most = c.args.scope.now.depth in
     let start = c.args.scope.now.start.now in
     let l = place_at start c.args.trail.now.items in
-    subst (λ (p : CodePart). OnOk c.one_on.result (IsTold r d most (part_nodes r d n c.args.made h l (part_view p)) (kept_view c.args.kept.now) (kept_view c.one_on.new.kept))) (sym c.in-Child.is) c.one_on.ensures.told
+    subst (λ (k : PartKind). OnOk c.one_on.result (IsTold r d most (part_nodes r d n c.args.made h l (part_by k (steps_view c.args.part.now.steps) (source_view c.args.part.now.source))) (kept_view c.args.kept.now) (kept_view c.one_on.new.kept))) (sym c.in-Child.is) c.one_on.ensures.told
 
 pub convert_part-returns-in-Child-clause-refused : goal.convert_part-returns-in-Child-clause-refused
 convert_part-returns-in-Child-clause-refused g t c =
@@ -360,7 +360,7 @@ convert_part-returns-in-Child-clause-refused g t c =
     let most = c.args.scope.now.depth in
     let start = c.args.scope.now.start.now in
     let l = place_at start c.args.trail.now.items in
-    subst (λ (p : CodePart). IfErr c.one_on.result (λ f. Refuses r d most start (g.T.Texts.faults c.args.texts.now) (g.T.Texts.faults c.one_on.new.texts) (part_nodes r d n c.args.made h l (part_view p)) (fault_view f))) (sym c.in-Child.is) c.one_on.ensures.refused
+    subst (λ (k : PartKind). IfErr c.one_on.result (λ f. Refuses r d most start (g.T.Texts.faults c.args.texts.now) (g.T.Texts.faults c.one_on.new.texts) (part_nodes r d n c.args.made h l (part_by k (steps_view c.args.part.now.steps) (source_view c.args.part.now.source))) (fault_view f))) (sym c.in-Child.is) c.one_on.ensures.refused
 
 pub convert_part-returns-in-OfBranch-clause-entry : goal.convert_part-returns-in-OfBranch-clause-entry
 convert_part-returns-in-OfBranch-clause-entry g t c =
@@ -371,7 +371,7 @@ convert_part-returns-in-OfBranch-clause-entry g t c =
     let most = c.args.scope.now.depth in
     let start = c.args.scope.now.start.now in
     let l = place_at start c.args.trail.now.items in
-    subst (λ (p : CodePart). IfOk c.two_on.result (λ e. tree_view e ≡ converted r d n c.args.made h (part_view p))) (sym c.in-OfBranch.is) c.two_on.ensures.entry
+    subst (λ (k : PartKind). IfOk c.two_on.result (λ e. tree_view e ≡ converted r d n c.args.made h (part_by k (steps_view c.args.part.now.steps) (source_view c.args.part.now.source)))) (sym c.in-OfBranch.is) c.two_on.ensures.entry
 
 pub convert_part-returns-in-OfBranch-clause-told : goal.convert_part-returns-in-OfBranch-clause-told
 convert_part-returns-in-OfBranch-clause-told g t c =
@@ -382,7 +382,7 @@ convert_part-returns-in-OfBranch-clause-told g t c =
     let most = c.args.scope.now.depth in
     let start = c.args.scope.now.start.now in
     let l = place_at start c.args.trail.now.items in
-    subst (λ (p : CodePart). OnOk c.two_on.result (IsTold r d most (part_nodes r d n c.args.made h l (part_view p)) (kept_view c.args.kept.now) (kept_view c.two_on.new.kept))) (sym c.in-OfBranch.is) c.two_on.ensures.told
+    subst (λ (k : PartKind). OnOk c.two_on.result (IsTold r d most (part_nodes r d n c.args.made h l (part_by k (steps_view c.args.part.now.steps) (source_view c.args.part.now.source))) (kept_view c.args.kept.now) (kept_view c.two_on.new.kept))) (sym c.in-OfBranch.is) c.two_on.ensures.told
 
 pub convert_part-returns-in-OfBranch-clause-refused : goal.convert_part-returns-in-OfBranch-clause-refused
 convert_part-returns-in-OfBranch-clause-refused g t c =
@@ -393,7 +393,7 @@ convert_part-returns-in-OfBranch-clause-refused g t c =
     let most = c.args.scope.now.depth in
     let start = c.args.scope.now.start.now in
     let l = place_at start c.args.trail.now.items in
-    subst (λ (p : CodePart). IfErr c.two_on.result (λ f. Refuses r d most start (g.T.Texts.faults c.args.texts.now) (g.T.Texts.faults c.two_on.new.texts) (part_nodes r d n c.args.made h l (part_view p)) (fault_view f))) (sym c.in-OfBranch.is) c.two_on.ensures.refused
+    subst (λ (k : PartKind). IfErr c.two_on.result (λ f. Refuses r d most start (g.T.Texts.faults c.args.texts.now) (g.T.Texts.faults c.two_on.new.texts) (part_nodes r d n c.args.made h l (part_by k (steps_view c.args.part.now.steps) (source_view c.args.part.now.source))) (fault_view f))) (sym c.in-OfBranch.is) c.two_on.ensures.refused
 
 pub convert_part-returns-in-Lone-clause-entry : goal.convert_part-returns-in-Lone-clause-entry
 convert_part-returns-in-Lone-clause-entry g t c =
@@ -404,7 +404,7 @@ convert_part-returns-in-Lone-clause-entry g t c =
     let most = c.args.scope.now.depth in
     let start = c.args.scope.now.start.now in
     let l = place_at start c.args.trail.now.items in
-    subst (λ (p : CodePart). IfOk c.one_on-in-Lone.result (λ e. tree_view e ≡ converted r d n c.args.made h (part_view p))) (sym c.in-Lone.is) c.one_on-in-Lone.ensures.entry
+    subst (λ (k : PartKind). IfOk c.one_on-in-Lone.result (λ e. tree_view e ≡ converted r d n c.args.made h (part_by k (steps_view c.args.part.now.steps) (source_view c.args.part.now.source)))) (sym c.in-Lone.is) c.one_on-in-Lone.ensures.entry
 
 pub convert_part-returns-in-Lone-clause-told : goal.convert_part-returns-in-Lone-clause-told
 convert_part-returns-in-Lone-clause-told g t c =
@@ -415,7 +415,7 @@ convert_part-returns-in-Lone-clause-told g t c =
     let most = c.args.scope.now.depth in
     let start = c.args.scope.now.start.now in
     let l = place_at start c.args.trail.now.items in
-    subst (λ (p : CodePart). OnOk c.one_on-in-Lone.result (IsTold r d most (part_nodes r d n c.args.made h l (part_view p)) (kept_view c.args.kept.now) (kept_view c.one_on-in-Lone.new.kept))) (sym c.in-Lone.is) c.one_on-in-Lone.ensures.told
+    subst (λ (k : PartKind). OnOk c.one_on-in-Lone.result (IsTold r d most (part_nodes r d n c.args.made h l (part_by k (steps_view c.args.part.now.steps) (source_view c.args.part.now.source))) (kept_view c.args.kept.now) (kept_view c.one_on-in-Lone.new.kept))) (sym c.in-Lone.is) c.one_on-in-Lone.ensures.told
 
 pub convert_part-returns-in-Lone-clause-refused : goal.convert_part-returns-in-Lone-clause-refused
 convert_part-returns-in-Lone-clause-refused g t c =
@@ -426,7 +426,7 @@ convert_part-returns-in-Lone-clause-refused g t c =
     let most = c.args.scope.now.depth in
     let start = c.args.scope.now.start.now in
     let l = place_at start c.args.trail.now.items in
-    subst (λ (p : CodePart). IfErr c.one_on-in-Lone.result (λ f. Refuses r d most start (g.T.Texts.faults c.args.texts.now) (g.T.Texts.faults c.one_on-in-Lone.new.texts) (part_nodes r d n c.args.made h l (part_view p)) (fault_view f))) (sym c.in-Lone.is) c.one_on-in-Lone.ensures.refused
+    subst (λ (k : PartKind). IfErr c.one_on-in-Lone.result (λ f. Refuses r d most start (g.T.Texts.faults c.args.texts.now) (g.T.Texts.faults c.one_on-in-Lone.new.texts) (part_nodes r d n c.args.made h l (part_by k (steps_view c.args.part.now.steps) (source_view c.args.part.now.source))) (fault_view f))) (sym c.in-Lone.is) c.one_on-in-Lone.ensures.refused
 
 pub convert_part-returns-in-Made-clause-entry : goal.convert_part-returns-in-Made-clause-entry
 convert_part-returns-in-Made-clause-entry g t c =
@@ -437,7 +437,7 @@ convert_part-returns-in-Made-clause-entry g t c =
     let most = c.args.scope.now.depth in
     let start = c.args.scope.now.start.now in
     let l = place_at start c.args.trail.now.items in
-    subst (λ (p : CodePart). IfOk c.convert.result (λ e. tree_view e ≡ converted r d n c.args.made h (part_view p))) (sym c.in-Made.is) c.convert.ensures.entry
+    subst (λ (k : PartKind). IfOk c.convert.result (λ e. tree_view e ≡ converted r d n c.args.made h (part_by k (steps_view c.args.part.now.steps) (source_view c.args.part.now.source)))) (sym c.in-Made.is) c.convert.ensures.entry
 
 pub convert_part-returns-in-Made-clause-told : goal.convert_part-returns-in-Made-clause-told
 convert_part-returns-in-Made-clause-told g t c =
@@ -448,7 +448,7 @@ convert_part-returns-in-Made-clause-told g t c =
     let most = c.args.scope.now.depth in
     let start = c.args.scope.now.start.now in
     let l = place_at start c.args.trail.now.items in
-    subst (λ (p : CodePart). OnOk c.convert.result (IsTold r d most (part_nodes r d n c.args.made h l (part_view p)) (kept_view c.args.kept.now) (kept_view c.convert.new.kept))) (sym c.in-Made.is) c.convert.ensures.told
+    subst (λ (k : PartKind). OnOk c.convert.result (IsTold r d most (part_nodes r d n c.args.made h l (part_by k (steps_view c.args.part.now.steps) (source_view c.args.part.now.source))) (kept_view c.args.kept.now) (kept_view c.convert.new.kept))) (sym c.in-Made.is) c.convert.ensures.told
 
 pub convert_part-returns-in-Made-clause-refused : goal.convert_part-returns-in-Made-clause-refused
 convert_part-returns-in-Made-clause-refused g t c =
@@ -459,4 +459,4 @@ convert_part-returns-in-Made-clause-refused g t c =
     let most = c.args.scope.now.depth in
     let start = c.args.scope.now.start.now in
     let l = place_at start c.args.trail.now.items in
-    subst (λ (p : CodePart). IfErr c.convert.result (λ f. Refuses r d most start (g.T.Texts.faults c.args.texts.now) (g.T.Texts.faults c.convert.new.texts) (part_nodes r d n c.args.made h l (part_view p)) (fault_view f))) (sym c.in-Made.is) c.convert.ensures.refused
+    subst (λ (k : PartKind). IfErr c.convert.result (λ f. Refuses r d most start (g.T.Texts.faults c.args.texts.now) (g.T.Texts.faults c.convert.new.texts) (part_nodes r d n c.args.made h l (part_by k (steps_view c.args.part.now.steps) (source_view c.args.part.now.source))) (fault_view f))) (sym c.in-Made.is) c.convert.ensures.refused
