@@ -49,6 +49,11 @@ module _ (ids : Target → Id) where
   placed_rest [] s = s
   placed_rest (e ∷ es) s = placed_rest es (placed_tree e s).0
 
+  -- each is entered, a reference too
+  abbrev pub placed_each : List Entry → Space → Space
+  placed_each [] s = s
+  placed_each (e ∷ es) s = placed_each es (placed ids None e s).0
+
   -- with the id of the first, or that of null where there is none
   abbrev pub placed_trees : List Entry → Space → Space × Id
   placed_trees [] s = put null_at s
@@ -57,6 +62,6 @@ module _ (ids : Target → Id) where
 abbrev pub placed_table : Table → Space × Id
 placed_table t = placed_trees (ids_in t) t.trees (placed_targets (ids_in t) t.targets)
 
--- the space of targets and of trees that come one after another, where there may be none
+-- the space of targets and of trees that come one after another, where there may be none; each has an entry, a reference too
 abbrev pub space_so_far : Table → Space
-space_so_far t = placed_rest (ids_in t) t.trees (placed_targets (ids_in t) t.targets)
+space_so_far t = placed_each (ids_in t) t.trees (placed_targets (ids_in t) t.targets)

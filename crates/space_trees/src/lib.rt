@@ -10,4 +10,5 @@ mod table;
 mod trees;
 
 pub use led::{Led, led_to};
-pub use table::{LedSpace, Planned, place_alone, space_of, targets_space};
+pub use table::{LedSpace, Planned, space_of, targets_space};
+pub use trees::place_tree;

@@ -163,10 +163,10 @@ fn reference_of<'t>(tree: &'t Tree<'_>) -> Option<&'t Target>
     }
 }
 
-/// Enters a tree of a table, behind what stands there, and answers its id; for a reference nothing is entered, and the id is that of
-/// the item that it leads to. Fails only for want of memory, or of an id, and where a reference leads nowhere.
+// Enters a tree of a table, behind what stands there, and answers its id; for a reference nothing is entered, and the id is that of
+// the item that it leads to.
 #[tactic(auto, using(crate::proofs::Steps::no_reference, crate::proofs::Steps::a_reference))]
-pub fn place_alone(
+fn place_alone(
     space: &mut EntrySpace,
     alloc: Global,
     led: &Led,
@@ -227,7 +227,7 @@ pub struct LedSpace {
 }
 
 /// The space of the targets of a table, which have their names. The trees of the table come after them, one after another, each by
-/// `place_alone`. Fails only for want of memory, or of an id.
+/// `place_tree`. Fails only for want of memory, or of an id.
 #[tactic(auto, using(crate::proofs::Steps::targets_placed))]
 pub fn targets_space<'d>(
     alloc: Global,

@@ -66,10 +66,11 @@ fn place_atom(space: &mut EntrySpace, led: &Led, atom: &Atom) -> Result<TypeId, 
     }
 }
 
-/// Enters a tree, its parts before it; an item may have been opened before.
+/// Enters a tree, its parts before it, and answers its id; an item may have been opened before. Fails only for want of memory, or of an
+/// id, and where a reference leads nowhere.
 #[tactic(auto, using(crate::proofs::Arms::atom_arm, crate::proofs::Arms::map_arm, crate::proofs::Arms::one_arm, crate::proofs::Arms::tuple_arm, crate::proofs::Falls::one_falls, crate::proofs::Falls::keys_fall, crate::proofs::Falls::values_fall, entry_trees::proofs::Sizes::tuple_falls, entry_trees::proofs::Sizes::fields_fall, crate::proofs::Falls::rest_falls, entry_trees::proofs::Sizes::variants_fall))]
 #[cycle(placing)]
-pub(crate) fn place_tree(
+pub fn place_tree(
     space: &mut EntrySpace,
     alloc: Global,
     led: &Led,

@@ -9,9 +9,9 @@ use Rattle.good_names.specs.Given.{Stands, Does}
 use Rattle.entry_space.specs.Seen.{seen}
 use Rattle.tree_names.specs.Folded.{targets_first, taken_after}
 use Rattle.tree_names.specs.Seen.{entry_named}
-use Rattle.space_trees.specs.Filled.{led_from, ids_in, placed_targets, placed_tree, placed_rest, space_so_far}
+use Rattle.space_trees.specs.Filled.{led_from, ids_in, placed_targets, placed_each, space_so_far}
 use Rattle.space_trees.specs.Leading.{found_led, ids_of}
-use Rattle.space_trees.specs.Placed.{rest_or_first}
+use Rattle.space_trees.specs.Placed.{rest_or_first, placed}
 use Rattle.space_trees.specs.declared.led.Led.{Led}
 use Rattle.type_space.specs.Placing.{with_names, entries_of, with_tree, next_named, Plans, PlansMore}
 use Rattle.type_space.specs.declared.plan.Plan.{Plan}
@@ -27,9 +27,9 @@ named-more : (b : Names) (es : List Entry) (e : Entry) (u : Names)
 named-more b [] e u = refl
 named-more b (x ∷ es) e u = let a = named is_good_name b x u in ap (λ (z : Names × List Entry). (z.0, a.1 ∷ z.1)) (named-more b es e a.0)
 
-placed-more : (ids : Target → Id) (es : List Entry) (e : Entry) (s : Space) → placed_rest ids (es ++ e ∷ []) s ≡ (placed_tree ids e (placed_rest ids es s)).0
+placed-more : (ids : Target → Id) (es : List Entry) (e : Entry) (s : Space) → placed_each ids (es ++ e ∷ []) s ≡ (placed ids None e (placed_each ids es s)).0
 placed-more ids [] e s = refl
-placed-more ids (x ∷ es) e s = placed-more ids es e (placed_tree ids x s).0
+placed-more ids (x ∷ es) e s = placed-more ids es e (placed ids None x s).0
 
 more : (t : Table) (e : Entry) → with_names (with_tree t e) ≡ with_tree (with_names t) (next_named t e)
 more t e = λ i. record { targets = (with_names t).targets; trees = (named-more (keys is_good_name t.targets) t.trees e (targets_first t.targets).0 i).1 }
@@ -37,19 +37,19 @@ more t e = λ i. record { targets = (with_names t).targets; trees = (named-more 
 more-taken : (t : Table) (e : Entry) → taken_after (with_tree t e) ≡ (named is_good_name (keys is_good_name t.targets) e (taken_after t)).0
 more-taken t e = ap (λ (z : Names × List Entry). z.0) (named-more (keys is_good_name t.targets) t.trees e (targets_first t.targets).0)
 
-more-entries : (t : Table) (e : Entry) → entries_of (with_tree t e) ≡ (placed_tree (ids_in (with_names t)) (next_named t e) (entries_of t)).0
+more-entries : (t : Table) (e : Entry) → entries_of (with_tree t e) ≡ (placed (ids_in (with_names t)) None (next_named t e) (entries_of t)).0
 more-entries t e =
     ap space_so_far (more t e) ∙ placed-more (ids_in (with_names t)) (with_names t).trees (next_named t e) (placed_targets (ids_in (with_names t)) (with_names t).targets)
 
 ids-are : (l : Led) (t : Table) → ((q : Target) → found_led l q ≡ led_from 0 t.targets q) → ids_of l ≡ ids_in t
 ids-are l t same = λ x q. rest_or_first (same q x)
 
-pub tree_plans : (p q : Plan) (t : Table) (y e : Entry) (i : Id) → Plans p t → Does T p.names q.names y (entry_named e) → placed_tree (ids_of p.led) y (seen p.space) ≡ (seen q.space, i) → q.led ≡ p.led → PlansMore q t e i
+pub tree_plans : (p q : Plan) (t : Table) (y e : Entry) (i : Id) → Plans p t → Does T p.names q.names y (entry_named e) → placed (ids_of p.led) None y (seen p.space) ≡ (seen q.space, i) → q.led ≡ p.led → PlansMore q t e i
 tree_plans p q t y e i h d w l =
     let k = keys is_good_name t.targets in
     let x = d.step k (taken_after t) h.names in
-    let same : placed_tree (ids_in (with_names t)) (next_named t e) (entries_of t) ≡ (seen q.space, i)
-    = (λ j. placed_tree (sym (ids-are p.led (with_names t) h.led) j) (sym x.0 j) (sym h.entries j)) ∙ w in
+    let same : placed (ids_in (with_names t)) None (next_named t e) (entries_of t) ≡ (seen q.space, i)
+    = (λ j. placed (sym (ids-are p.led (with_names t) h.led) j) None (sym x.0 j) (sym h.entries j)) ∙ w in
     record {
       plans = record {
         entries = sym (more-entries t e ∙ ap (λ (a : Space × Id). a.0) same);

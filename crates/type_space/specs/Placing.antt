@@ -1,5 +1,5 @@
 -- Tables whose trees come one after another.
-use Rattle.std.specs.Prelude.{◌≡◌, zero, [], ◌∷◌, ◌++◌, codes}
+use Rattle.std.specs.Prelude.{◌≡◌, zero, [], ◌∷◌, ◌++◌, codes, None}
 use Rattle.entry_defs.specs.Entry.{Target, Entry}
 use Rattle.entry_defs.specs.Space.{Id, Space}
 use Rattle.entry_defs.specs.Table.{Table}
@@ -8,7 +8,8 @@ use Rattle.naming_defs.specs.Good.{is_good_name}
 use Rattle.good_names.specs.Given.{Stands}
 use Rattle.tree_names.specs.Folded.{taken_after}
 use Rattle.entry_space.specs.Seen.{seen}
-use Rattle.space_trees.specs.Filled.{led_from, ids_in, placed_tree, space_so_far}
+use Rattle.space_trees.specs.Filled.{led_from, ids_in, space_so_far}
+use Rattle.space_trees.specs.Placed.{placed}
 use Rattle.space_trees.specs.Leading.{found_led}
 use Rattle.type_space.specs.declared.plan.Plan.{Plan}
 
@@ -35,9 +36,9 @@ with_tree t e = record { targets = t.targets; trees = t.trees ++ e ∷ [] }
 abbrev pub next_named : Table → Entry → Entry
 next_named t e = (named is_good_name (keys is_good_name t.targets) e (taken_after t)).1
 
--- the id of one more tree; that of what it leads to, where it is a reference
+-- the id of one more tree
 abbrev pub next_id : Table → Entry → Id
-next_id t e = (placed_tree (ids_in (with_names t)) (next_named t e) (entries_of t)).1
+next_id t e = (placed (ids_in (with_names t)) None (next_named t e) (entries_of t)).1
 
 -- the entries of the table, and the names that are given
 pub record Plans (p : Plan) (t : Table) : Type 0 where

@@ -8,7 +8,7 @@ ghost use Rattle.type_space.specs.Placing.{Plans, PlansMore};
 use entry_space::{EntrySpace, TypeId};
 use entry_trees::{Target, Tree};
 use good_names::GivenNames;
-use space_trees::{Led, place_alone, targets_space};
+use space_trees::{Led, place_tree, targets_space};
 use std::alloc::{AllocError, Global};
 use tree_names::{named_targets, named_tree};
 
@@ -57,6 +57,6 @@ pub(crate) fn place_next(
     ensures { IfOk result (λ i. (t : Table) → Plans plan.old t → PlansMore plan.new t (tree_view tree.now) (id_view i)) }
 {
     let named = named_tree(alloc, &mut plan.names, tree)?;
-    let id = place_alone(&mut plan.space, alloc, &plan.led, &named)?;
+    let id = place_tree(&mut plan.space, alloc, &plan.led, None, &named)?;
     Ok(id)
 }

@@ -91,7 +91,7 @@ impl<'d> TypeSpace<'d> {
     }
 
     /// The id of the schema at a location. A definition, and the root where some `$ref` is `#`, has it already, and nothing is
-    /// converted. Elsewhere the schema is converted anew, and where that gives a reference, the id is that of what it leads to.
+    /// converted. Elsewhere the schema is converted anew; where that gives a reference it has an entry of its own.
     pub fn add_type<T: Texts>(&mut self, at: &Location, texts: &mut T) -> Result<TypeId, Fault>
         requires begun { is_begun self.old ≡ true }
         requires there { is_some (schema_at (document_in self.old) at.now) ≡ true }
