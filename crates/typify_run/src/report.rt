@@ -16,13 +16,24 @@ use typify_convert::Note;
 
 /// The items that stand for a schema, with the table of what attributes don't say, the type of the root, the notes,
 /// and a verdict for each listed value.
-#[derive(Drop)]
 pub struct Report {
     pub items: Vec<DeriveInput>,
     pub conversions: Conversions,
     pub root: Ty,
     pub notes: Vec<Note>,
     pub verdicts: Vec<Verdict>,
+}
+
+impl Drop for Report {
+    fn drop(self) {
+        let Report {
+            items: _items,
+            conversions: _conversions,
+            root: _root,
+            notes: _notes,
+            verdicts: _verdicts,
+        } = self;
+    }
 }
 
 fn note_line(alloc: Global, note: &Note) -> Result<String, AllocError>
