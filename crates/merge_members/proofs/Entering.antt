@@ -25,7 +25,7 @@ entered object_type closed o p needed needed' unsaid unsaid' n m after e f g h =
 
 -- ---- all names
 
-entered_last : (join : Schema → Schema → Outcome Schema) (object_type closed : Bool) (es : List Entry) (e : Entry) (after : Outcome Properties)
+pub entered_last : (join : Schema → Schema → Outcome Schema) (object_type closed : Bool) (es : List Entry) (e : Entry) (after : Outcome Properties)
     → entries_then join object_type closed (es ++ e ∷ []) after ≡ entries_then join object_type closed es (entry_then join object_type closed e after)
 entered_last join object_type closed [] e after = refl
 entered_last join object_type closed (x ∷ es) e after = ap (entry_then join object_type closed x) (entered_last join object_type closed es e after)

@@ -99,7 +99,8 @@ fn alone(alloc: Global, schema: &Schema, rest: &Option<Box<Schema>>) -> Result<B
     Ok(Bound::Alone(schema))
 }
 
-fn both(alloc: Global, schema: &Schema, other: &Schema) -> Result<Bound, AllocError>
+/// Two schemas that are merged, or of which the second is taken away from the first.
+pub fn bound_by_both(alloc: Global, schema: &Schema, other: &Schema) -> Result<Bound, AllocError>
     ensures { IfOk result (λ b. (join : SchemaOf → SchemaOf → Outcome SchemaOf) → bound_outcome join b ≡ or_false join (schema_view schema.now) (schema_view other.now)) }
 {
     let schema = schema.try_clone(alloc)?;
@@ -121,7 +122,7 @@ fn bound_by(
         (None, None) => Ok(Bound::Alone(Schema::Bool(true))),
         (Some(schema), None) => alone(alloc, schema, second_rest),
         (None, Some(schema)) => alone(alloc, schema, first_rest),
-        (Some(schema), Some(other)) => both(alloc, schema, other),
+        (Some(schema), Some(other)) => bound_by_both(alloc, schema, other),
     }
 }
 

@@ -14,10 +14,7 @@ use std::alloc::{AllocError, Global};
 use std::collections::{BTreeMap, BTreeSet};
 
 /// The property of a name.
-pub(crate) fn property<'s>(
-    properties: &'s BTreeMap<String, Schema>,
-    name: &str,
-) -> Option<&'s Schema>
+pub fn property<'s>(properties: &'s BTreeMap<String, Schema>, name: &str) -> Option<&'s Schema>
     ensures { seen_schema result ≡ property_at name.now (properties_view properties.now.entries) }
 {
     properties.get(name)
@@ -31,7 +28,7 @@ pub(crate) fn has_property(properties: &BTreeMap<String, Schema>, name: &str) ->
 }
 
 /// Whether the name is one of those.
-pub(crate) fn is_among(names: &BTreeSet<String>, name: &str) -> bool
+pub fn is_among(names: &BTreeSet<String>, name: &str) -> bool
     ensures { result ≡ is_name name.now (map string_bytes (keys names.now)) }
 {
     names.contains(name)
@@ -100,8 +97,8 @@ pub(crate) fn has_unnamed(
     false
 }
 
-// The names of properties, in their order, behind those before them.
-fn push_properties<'n>(
+/// The names of properties, in their order, behind those before them.
+pub fn push_properties<'n>(
     names: &mut Vec<&'n str>,
     properties: &'n BTreeMap<String, Schema>,
 ) -> Result<(), AllocError>

@@ -26,7 +26,7 @@ use Rattle.merge_sides.specs.Referring.{objects_outcome, walk_of_two}
 use Rattle.merge_sides.specs.Behind.{behind, behind_by, behind_two}
 use Rattle.merge_sides.proofs.Refusals.{mapped_refused, mapped_mixed}
 
-then_same : {A B : Type 0} (o : Outcome A) (k h : A → Outcome B) → ((a : A) → k a ≡ h a) → and_then o k ≡ and_then o h
+pub then_same : {A B : Type 0} (o : Outcome A) (k h : A → Outcome B) → ((a : A) → k a ≡ h a) → and_then o k ≡ and_then o h
 then_same (fault f) k h e = refl
 then_same (never ns) k h e = refl
 then_same (answer ns a) k h e = ap (noted ns) (e a)

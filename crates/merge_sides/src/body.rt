@@ -90,8 +90,9 @@ pub fn body_of(
     Ok(as_schema(boxed))
 }
 
+/// The object with other listed values.
 #[tactic(auto, using(crate::proofs::Made::values_put))]
-fn with_values(object: SchemaObject, values: Option<Vec<Value>>) -> SchemaObject
+pub fn with_values(object: SchemaObject, values: Option<Vec<Value>>) -> SchemaObject
     ensures { object_view result ≡ listing (values_view values) (object_view object) }
 {
     let SchemaObject {

@@ -2,16 +2,17 @@
 #![tactic(auto)]
 
 mod body;
-mod entered;
 pub mod examples;
 mod leaves;
 mod met;
+mod opening;
 mod references;
 mod refused;
 mod two_sides;
 
-pub use body::{body_of, finished, part_on};
+pub use body::{body_of, finished, part_on, with_values};
 pub use met::{Asked, Bodies, Leaves, Met, Referred};
-pub use references::stand_for;
-pub use refused::refuse_subschemas;
-pub use two_sides::meet;
+pub use opening::entered;
+pub use references::{as_schema, stand_for};
+pub use refused::{refuse_subschemas, unsupported};
+pub use two_sides::{has_nulls, meet};

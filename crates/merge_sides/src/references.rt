@@ -42,7 +42,8 @@ fn as_object(reference: String, walk: Walk) -> SchemaObject
     }
 }
 
-pub(crate) fn as_schema(object: Box<SchemaObject>) -> Schema
+/// An object as a schema.
+pub fn as_schema(object: Box<SchemaObject>) -> Schema
     ensures { schema_view result ≡ object_view object.value }
 {
     Schema::Object(object)

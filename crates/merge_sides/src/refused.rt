@@ -16,7 +16,8 @@ use merge_parts::{MergeFault, UnsupportedMerge};
 use merge_steps::Stop;
 use schema_types::{ObjectValidation, Subschemas};
 
-fn unsupported(what: UnsupportedMerge) -> Stop
+/// What is answered where no merge is made.
+pub fn unsupported(what: UnsupportedMerge) -> Stop
     ensures { result ≡ Fault (Unsupported what) }
 {
     Stop::Fault(MergeFault::Unsupported(what))

@@ -19,9 +19,9 @@ ghost use Rattle.merge_sides.specs.Leaves.{leaves_view};
 ghost use Rattle.merge_sides.specs.Met.{bodies_outcome, met_outcome, referred_view};
 ghost use Rattle.merge_sides.specs.Referring.{drops_beside, first_outcome, objects_outcome, other_outcome, refer_alike as refer_alike_of, reference_in, referred_in, referring_outcome, second_outcome, sides_outcome, walk_of_two};
 
-use crate::entered::entered;
 use crate::leaves::leaves;
 use crate::met::{Bodies, Leaves, Met, Referred};
+use crate::opening::entered;
 use crate::references::{as_schema, asked, referred, referring};
 use crate::refused::{refuse_names, refuse_subschemas};
 use merge_alike::drops_siblings;
@@ -35,7 +35,7 @@ use std::alloc::{AllocError, Global};
 // ---- two objects without references
 
 /// Whether null may stand for an absent member.
-fn has_nulls(document: &Document) -> bool
+pub fn has_nulls(document: &Document) -> bool
     ensures { result ≡ counts_as_absent (document_view document.now).setting null }
 {
     match document.setting() {

@@ -14,7 +14,7 @@ use std::alloc::Global;
 
 /// The side as it is met, unless its walk has more steps than are allowed.
 #[tactic(auto, using(merge_steps::proofs::Ending::memory_goes, crate::proofs::Entering::is_deep, crate::proofs::Entering::is_met))]
-pub(crate) fn entered(alloc: Global, most: usize, schema: &Schema) -> Result<Schema, Stop>
+pub fn entered(alloc: Global, most: usize, schema: &Schema) -> Result<Schema, Stop>
     ensures { (k : SchemaOf → Outcome SchemaOf) (ns : List Note) → Goes (λ s. k (schema_view s)) ns ns (unless_deep most (schema_view schema.now) k) result }
 {
     let side = Side::plain(schema);
