@@ -1,0 +1,6 @@
+pub mod Exactly
+pub mod Refusing
+pub mod Naming
+pub mod Dividing
+pub mod Putting
+pub mod Rowing
