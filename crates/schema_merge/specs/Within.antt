@@ -1,0 +1,49 @@
+-- Merges and subtractions with so many levels left, as the cycle of calls asks for them.
+use Rattle.std.specs.Prelude.{ℕ, [], Option, Some, None}
+use Rattle.schema_defs.specs.Schema.{Schema, Schemas, no_more, schema, Document}
+use Rattle.schema_types.specs.DocumentView.{document_view}
+use Rattle.merge_defs.specs.Outcome.{Outcome, answer, and_then}
+use Rattle.merge_walks.specs.Carried.{Walk}
+use Rattle.merge_walks.specs.Made.{on_made}
+use Rattle.merge_walks.specs.Walked.{parts_within}
+use Rattle.schema_merge.specs.declared.how.How.{How}
+use Rattle.schema_merge.specs.declared.how.How.TheVariants.{Join, Less}
+use Rattle.schema_merge.specs.declared.how.Scope.{Scope}
+
+-- unfolded where a level is entered alone
+unfoldable pub join_within : Document → ℕ → ℕ → Schema → Schema → Outcome Schema
+join_within d most n = (parts_within d most n).join
+
+unfoldable pub less_within : Document → ℕ → ℕ → Schema → Schema → Outcome Schema
+less_within d most n = (parts_within d most n).less
+
+abbrev pub within : Document → ℕ → ℕ → How → Schema → Schema → Outcome Schema
+within d most n Join = join_within d most n
+within d most n Less = less_within d most n
+
+-- where members are merged on a walk, both sides may have been made on the way
+abbrev pub on_walks : Option Walk → (Schema → Schema → Outcome Schema) → Schema → Schema → Outcome Schema
+on_walks None f = f
+on_walks (Some w) f = on_made w f
+
+unfoldable pub asked : Document → ℕ → ℕ → Option Walk → How → Schema → Schema → Outcome Schema
+asked d most n o h = on_walks o (within d most n h)
+
+-- one after another: `with_each`, `less_each` and `merge_from` all are this
+abbrev pub folded : (Schema → Schema → Outcome Schema) → Schemas → Schema → Outcome Schema
+folded f no_more s = answer [] s
+folded f (schema t ts) s = and_then (f s t) (folded f ts)
+
+-- ---- as a call asks for them
+
+abbrev pub document_in : Scope → Document
+document_in s = document_view s.document.now
+
+abbrev pub join_in : Scope → ℕ → Schema → Schema → Outcome Schema
+join_in s n = join_within (document_in s) s.most n
+
+abbrev pub less_in : Scope → ℕ → Schema → Schema → Outcome Schema
+less_in s n = less_within (document_in s) s.most n
+
+abbrev pub asked_in : Scope → ℕ → Option Walk → How → Schema → Schema → Outcome Schema
+asked_in s n o h = asked (document_in s) s.most n o h
