@@ -1,0 +1,4 @@
+pub mod Refusing
+pub mod Unmarking
+pub mod ByKind
+pub mod InOrder

@@ -1,0 +1,12 @@
+//! Merges and subtractions as a caller asks for them: notes with their places, and schemas whose walks carry no marks.
+#![tactic(auto)]
+
+mod calls;
+pub mod examples;
+mod ordering;
+mod telling;
+mod told;
+mod unmark;
+
+pub use calls::{LEVELS, merge_all, subtract, try_merge_with_subschemas};
+pub use told::{Merged, PlacedNote, Refusal};
