@@ -8,10 +8,11 @@ use merge_members::examples::{names_of_both_rise, one_name_is_left};
 use merge_parts::examples::notes_stand_in_order;
 use merge_sides::examples::a_value_of_both_is_left;
 use merge_steps::examples::never_is_nothing;
+use merge_taken::examples::{a_property_stands, a_value_is_left};
 use std::alloc::AllocError;
 use std::test::Fail;
 
-fn said(found: Result<bool, AllocError>) -> Result<bool, Fail> {
+pub(crate) fn said(found: Result<bool, AllocError>) -> Result<bool, Fail> {
     match found {
         Ok(found) => Ok(found),
         Err(_) => Err(Fail::new("memory ran out")),
@@ -99,5 +100,17 @@ fn one_name_is_left_so(rt: HostRuntime) -> Result<(), Fail> {
 #[test]
 fn a_value_of_both_is_left_so(rt: HostRuntime) -> Result<(), Fail> {
     assert!(rt; said(a_value_of_both_is_left(rt.alloc()))?);
+    Ok(())
+}
+
+#[test]
+fn a_value_is_left_so(rt: HostRuntime) -> Result<(), Fail> {
+    assert!(rt; said(a_value_is_left(rt.alloc()))?);
+    Ok(())
+}
+
+#[test]
+fn a_property_stands_so(rt: HostRuntime) -> Result<(), Fail> {
+    assert!(rt; a_property_stands(rt.alloc()));
     Ok(())
 }

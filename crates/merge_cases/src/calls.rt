@@ -1,0 +1,195 @@
+//! The calls, and what they answer as text.
+use crate::show::push_schema;
+use case_words::fault_text;
+use merge_parts::{MergeKind, UnsupportedMerge, Way};
+use merge_told::{Merged, PlacedNote, Refusal, merge_all, subtract, try_merge_with_subschemas};
+use schema_tree::{Document, Schema, SchemaObject};
+use serde_json::Value;
+use std::alloc::{AllocError, Global};
+use std::fmt::Write;
+
+/// What is asked of a document.
+#[derive(Clone, Copy)]
+pub enum Call {
+    Merge,
+    Subschemas,
+    Subtract,
+}
+
+/// The answer of the call as text.
+pub fn answer(alloc: Global, call: Call, depth: u32, value: &Value) -> Result<String, AllocError> {
+    match Document::read(alloc, value) {
+        Ok(document) => match document.root() {
+            Schema::Object(object) => asked(alloc, call, depth, &document, object),
+            Schema::Bool(_) => String::from_str(alloc, "no case"),
+        },
+        Err(fault) => fault_text(alloc, &fault),
+    }
+}
+
+fn asked(
+    alloc: Global,
+    call: Call,
+    depth: u32,
+    document: &Document,
+    object: &SchemaObject,
+) -> Result<String, AllocError> {
+    match call {
+        Call::Merge => merged(alloc, depth, document, object),
+        Call::Subschemas => with_subschemas(alloc, depth, document, object),
+        Call::Subtract => subtracted(alloc, depth, document, object),
+    }
+}
+
+// ---- calls
+
+fn members_of(object: &SchemaObject) -> &[Schema] {
+    match &object.subschemas {
+        Some(subschemas) => match &subschemas.all_of {
+            Some(members) => members.as_slice(),
+            None => &[],
+        },
+        None => &[],
+    }
+}
+
+fn merged(
+    alloc: Global,
+    depth: u32,
+    document: &Document,
+    object: &SchemaObject,
+) -> Result<String, AllocError> {
+    let found = merge_all(alloc, document.parts(), depth, members_of(object));
+    text_of(alloc, found)
+}
+
+// The root without its subschemas.
+fn body_of(alloc: Global, schema: &Schema) -> Result<Schema, AllocError> {
+    match schema.try_clone(alloc)? {
+        Schema::Bool(b) => Ok(Schema::Bool(b)),
+        Schema::Object(object) => {
+            let mut object = object;
+            object.subschemas = None;
+            Ok(Schema::Object(object))
+        }
+    }
+}
+
+fn with_subschemas(
+    alloc: Global,
+    depth: u32,
+    document: &Document,
+    object: &SchemaObject,
+) -> Result<String, AllocError> {
+    let body = body_of(alloc, document.root())?;
+    let found = try_merge_with_subschemas(
+        alloc,
+        document.parts(),
+        depth,
+        &body,
+        &object.subschemas,
+    );
+    text_of(alloc, found)
+}
+
+fn taken_away(object: &SchemaObject) -> Option<&Schema> {
+    match &object.subschemas {
+        Some(subschemas) => match &subschemas.not {
+            Some(schema) => Some(schema),
+            None => None,
+        },
+        None => None,
+    }
+}
+
+fn subtracted(
+    alloc: Global,
+    depth: u32,
+    document: &Document,
+    object: &SchemaObject,
+) -> Result<String, AllocError> {
+    match (members_of(object).first(), taken_away(object)) {
+        (Some(from), Some(less)) => {
+            let found = subtract(alloc, document.parts(), depth, from, less);
+            text_of(alloc, found)
+        }
+        _ => String::from_str(alloc, "no case"),
+    }
+}
+
+// ---- answers
+
+fn text_of(alloc: Global, found: Result<Merged, Refusal>) -> Result<String, AllocError> {
+    let mut text = String::new(alloc);
+    match found {
+        Ok(merged) => push_merged(alloc, &mut text, &merged)?,
+        Err(refusal) => push_refusal(alloc, &mut text, &refusal)?,
+    }
+    Ok(text)
+}
+
+fn push_merged(alloc: Global, out: &mut String, merged: &Merged) -> Result<(), AllocError> {
+    match &merged.schema {
+        Some(schema) => push_schema(alloc, out, schema)?,
+        None => out.push_str("never")?,
+    }
+    for note in &merged.notes {
+        push_note(alloc, out, note)?;
+    }
+    Ok(())
+}
+
+fn push_note(alloc: Global, out: &mut String, note: &PlacedNote) -> Result<(), AllocError> {
+    let way = way_word(note.way);
+    let kind = kind_word(note.kind);
+    let path = note.path.text(alloc)?;
+    write!(out, "; {way} {kind} {path}")
+}
+
+fn way_word(way: Way) -> &'static str {
+    match way {
+        Way::Narrowed => "narrowed",
+        Way::Widened => "widened",
+    }
+}
+
+fn kind_word(kind: MergeKind) -> &'static str {
+    match kind {
+        MergeKind::Integer => "integer",
+        MergeKind::Names => "names",
+        MergeKind::Reference => "reference",
+        MergeKind::Formats => "formats",
+        MergeKind::Clash => "clash",
+        MergeKind::Members => "members",
+        MergeKind::Subtract => "subtract",
+        MergeKind::Absent => "absent",
+    }
+}
+
+fn push_refusal(alloc: Global, out: &mut String, refusal: &Refusal) -> Result<(), AllocError> {
+    match refusal {
+        Refusal::Memory => out.push_str("Memory"),
+        Refusal::TooDeep(walk) => {
+            out.push_str("Depth")?;
+            for location in &walk.locations {
+                let path = location.text(alloc)?;
+                write!(out, " {path}")?;
+            }
+            Ok(())
+        }
+        Refusal::Cannot(what, path) => {
+            let word = unsupported_word(*what);
+            let path = path.text(alloc)?;
+            write!(out, "Unsupported {word} {path}")
+        }
+    }
+}
+
+fn unsupported_word(what: UnsupportedMerge) -> &'static str {
+    match what {
+        UnsupportedMerge::Conditional => "Conditional",
+        UnsupportedMerge::AnyBesideOne => "AnyOne",
+        UnsupportedMerge::PatternNames => "Names",
+        UnsupportedMerge::Subtracting => "Subtract",
+    }
+}
