@@ -1,5 +1,5 @@
 -- The law of conversion where rows may merge: without narrowed notes each value that a schema of the conversion tree admits is one that its entry takes, and without
--- widened notes each value that its entry takes is one that the schema admits. Stated, not proved yet.
+-- widened notes each value that its entry takes is one that the schema admits. Proved in conversion_laws.
 use Rattle.std.specs.Prelude.{◌≡◌, ℕ, List, [], ◌∷◌, false}
 use Rattle.json_value.specs.Value.{Value, IsSmall}
 use Rattle.schema_defs.specs.Texts.{Relations, IsLawful}
