@@ -17,7 +17,7 @@ use schema_types::{Document, Location, Schema, Subschemas};
 use std::alloc::{AllocError, Global};
 
 /// How many parts are merged within one another, so that the stack holds.
-pub const LEVELS: u32 = 256;
+pub const LEVELS: u32 = 128;
 
 fn place_of(alloc: Global, schema: &Schema) -> Result<Location, AllocError>
     ensures { IfOk result (λ l. l ≡ place_of_def (schema_view schema.now)) }
@@ -45,7 +45,7 @@ fn copies(alloc: Global, list: &[Schema]) -> Result<Vec<Schema>, AllocError>
     Ok(copies)
 }
 
-/// The merge of several schemas from the left; of none it is `true`. Walks have at most `depth` steps, and at most 256 parts are merged within one another; where more would be, memory counts as wanting.
+/// The merge of several schemas from the left; of none it is `true`. Walks have at most `depth` steps, and at most 128 parts are merged within one another; where more would be, memory counts as wanting.
 pub fn merge_all(
     alloc: Global,
     document: &Document,
@@ -53,8 +53,8 @@ pub fn merge_all(
     list: &[Schema],
 ) -> Result<Merged, Refusal>
     requires { IsGuarded (document_view document.now) }
-    ensures answered { IfOk result (λ m. merge_all_told (document_view document.now) depth 256 (schemas (schemas_view list.now)) ≡ told_of (merged_view m)) }
-    ensures refused { IfErr result (λ e. IfSome (refusal_view e) (λ r. merge_all_told (document_view document.now) depth 256 (schemas (schemas_view list.now)) ≡ refused r)) }
+    ensures answered { IfOk result (λ m. merge_all_told (document_view document.now) depth 128 (schemas (schemas_view list.now)) ≡ told_of (merged_view m)) }
+    ensures refused { IfErr result (λ e. IfSome (refusal_view e) (λ r. merge_all_told (document_view document.now) depth 128 (schemas (schemas_view list.now)) ≡ refused r)) }
 {
     let place = place_of_first(alloc, list)?;
     let copies = copies(alloc, list)?;
@@ -72,8 +72,8 @@ pub fn try_merge_with_subschemas(
     subschemas: &Option<Subschemas>,
 ) -> Result<Merged, Refusal>
     requires { IsGuarded (document_view document.now) }
-    ensures answered { IfOk result (λ m. with_subschemas_told (document_view document.now) depth 256 (schema_view body.now) (same_of (option_map subschemas_view subschemas.now)) ≡ told_of (merged_view m)) }
-    ensures refused { IfErr result (λ e. IfSome (refusal_view e) (λ r. with_subschemas_told (document_view document.now) depth 256 (schema_view body.now) (same_of (option_map subschemas_view subschemas.now)) ≡ refused r)) }
+    ensures answered { IfOk result (λ m. with_subschemas_told (document_view document.now) depth 128 (schema_view body.now) (same_of (option_map subschemas_view subschemas.now)) ≡ told_of (merged_view m)) }
+    ensures refused { IfErr result (λ e. IfSome (refusal_view e) (λ r. with_subschemas_told (document_view document.now) depth 128 (schema_view body.now) (same_of (option_map subschemas_view subschemas.now)) ≡ refused r)) }
 {
     let place = place_of(alloc, body)?;
     let mut notes = Vec::new(alloc);
@@ -98,8 +98,8 @@ pub fn subtract(
     less: &Schema,
 ) -> Result<Merged, Refusal>
     requires { IsGuarded (document_view document.now) }
-    ensures answered { IfOk result (λ m. subtract_told (document_view document.now) depth 256 (schema_view from.now) (schema_view less.now) ≡ told_of (merged_view m)) }
-    ensures refused { IfErr result (λ e. IfSome (refusal_view e) (λ r. subtract_told (document_view document.now) depth 256 (schema_view from.now) (schema_view less.now) ≡ refused r)) }
+    ensures answered { IfOk result (λ m. subtract_told (document_view document.now) depth 128 (schema_view from.now) (schema_view less.now) ≡ told_of (merged_view m)) }
+    ensures refused { IfErr result (λ e. IfSome (refusal_view e) (λ r. subtract_told (document_view document.now) depth 128 (schema_view from.now) (schema_view less.now) ≡ refused r)) }
 {
     let place = place_of(alloc, from)?;
     let first = from.try_clone(alloc)?;
