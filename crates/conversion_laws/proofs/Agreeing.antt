@@ -77,8 +77,9 @@ module _ (way : Way) (r : Relations) (lawful : IsLawful r) (d : Document) (guard
   AllDefinitions P [] = Unit {0}
   AllDefinitions P (e ∷ es) = P e × AllDefinitions P es
 
+  -- the root only where some reference leads there
   abbrev pub CleanDocument : Type 0
-  CleanDocument = IsClean (root_spot r d most n) d.root × AllDefinitions (λ e. IsClean (definition_spot r d most n e) e.body) d.definitions
+  CleanDocument = (refers_to_root d ≡ true → IsClean (root_spot r d most n) d.root) × AllDefinitions (λ e. IsClean (definition_spot r d most n e) e.body) d.definitions
 
   module _ (clean : CleanDocument) (v : Value) (whole : is_whole v ≡ true) (ps : Parts) (judged : (s : Schema) → judge_within r d v ps (allowed d) s ≡ admits r d v s) (es : model.Parts entry.Judge) (w : View way d.setting IsTo r v ps es) where
     -- with k references left at this value, of which the table allows m more
@@ -104,7 +105,7 @@ module _ (way : Way) (r : Relations) (lawful : IsLawful r) (d : Document) (guard
       where
         by : (b : Bool) (o : Option (List ℕ)) → (b ≡ true → refers_to_root d ≡ true) → (if b then Some the_root else option_map definition o) ≡ Some t → Given (Ends d k) (if b then Some d.root else option_map (λ e. e.body) (defined_as d o))
             → Keeps way (follow (judge_within r d v ps k) (if b then Some d.root else option_map (λ e. e.body) (defined_as d o))) (led m (target_item (table r d most n) t))
-        by true o u h g0 = keep-to way _ _ _ (a (root_spot r d most n) d.root clean.0 g0)
+        by true o u h g0 = keep-to way _ _ _ (a (root_spot r d most n) d.root (clean.0 (u refl)) g0)
             (item-takes r v es (takes.follows (table r d most n) r v es m) (root_name d.root) (root_entry r d most n)
             ∙ ap (led m) (sym (root-last r d most n d.definitions (root_targets r d most n (refers_to_root d)) ∙ root-led r d most n (refers_to_root d) (u refl)))
             ∙ ap (λ u. led m (target_item (table r d most n) u)) (some-same the_root t h))

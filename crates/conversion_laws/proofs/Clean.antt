@@ -54,7 +54,7 @@ module _ (d : Document) where
   branches-are-apart no_same h = refl
   branches-are-apart (same_value all any one none c) h = λ i. members-are-apart any h.1 i && members-are-apart one h.2 i
 
-  names-are-apart : (s : Schema) → IsProper of_any_size d s → HasNamesApart s
+  pub names-are-apart : (s : Schema) → IsProper of_any_size d s → HasNamesApart s
   names-are-apart (boolean b) h = tt
   names-are-apart (object p ss ls ns) h = λ i. h.0.apart i && branches-are-apart ss h.1 i
 

@@ -41,7 +41,7 @@ module _ (way : Way) (r : Relations) (lawful : IsLawful r) (d : Document) (guard
 
   -- ---- the document
 
-  definitions-stand : (ds : List Definition) → AllByRecursion (λ e. IsProper of_any_size d e.body) ds → ProperDefinitions ds → AllNodes IsFine_ (definition_trees r d most n ds)
+  pub definitions-stand : (ds : List Definition) → AllByRecursion (λ e. IsProper of_any_size d e.body) ds → ProperDefinitions ds → AllNodes IsFine_ (definition_trees r d most n ds)
       → AllDefinitions way r lawful d guarded fits in_order most n (λ e. Clean way r d most n (definition_spot r d most n e) e.body) ds × AllNodes Has (definition_trees r d most n ds)
   definitions-stand [] x y h = (tt, tt)
   definitions-stand (e ∷ ds) x y h =
@@ -51,27 +51,30 @@ module _ (way : Way) (r : Relations) (lawful : IsLawful r) (d : Document) (guard
       let b = definitions-stand ds x.1 y.1 (nodes-right IsFine_ here rest h) in
       ((a.0, b.0), nodes-both Has here rest a.1 b.1)
 
-  document-stands : AllNodes IsFine_ (document_tree r d most n) → CleanDocument way r lawful d guarded fits in_order most n × AllNodes Has (document_tree r d most n)
+  abbrev Document_ : Type 0
+  Document_ = CleanDocument way r lawful d guarded fits in_order most n
+
+  abbrev Root_ : Type 0
+  Root_ = Clean way r d most n (root_spot r d most n) d.root
+
+  document-stands : AllNodes IsFine_ (document_tree r d most n) → Root_ × Document_ × AllNodes Has (document_tree r d most n)
   document-stands h =
       let first : List Node = definition_trees r d most n d.definitions in
       let last : List Node = tree_at r d most n (root_spot r d most n) d.root in
       let a = definitions-stand d.definitions in_order.definitions fits.1 (nodes-left IsFine_ first last h) in
       let b = stands way r lawful d guarded fits in_order most n n (root_spot r d most n) d.root in_order.root fits.0 (nodes-right IsFine_ first last h) in
-      ((b.0, a.0), nodes-both Has first last a.1 b.1)
-
-  abbrev Document_ : Type 0
-  Document_ = CleanDocument way r lawful d guarded fits in_order most n
+      (b.0, ((λ e. b.0), a.0), nodes-both Has first last a.1 b.1)
 
   all-keep : Document_ → (v : Value) → IsSmall v → (ts : List Node) → AllNodes Has ts → AllNodes (Kept way r d most n v) ts
   all-keep c v s [] h = tt
   all-keep c v s (t ∷ ts) h = ((value-match way r lawful d guarded fits in_order most n c v s).agree t.schema t.entry h.0, all-keep c v s ts h.1)
 
-  clean : faults_of r d most n ≡ [] → Free way (notes_of r d most n) → Document_ × AllNodes Has (document_tree r d most n)
+  clean : faults_of r d most n ≡ [] → Free way (notes_of r d most n) → Root_ × Document_ × AllNodes Has (document_tree r d most n)
   clean f g = document-stands (fine-nodes way r lawful d guarded fits in_order most n (document_tree r d most n) f (free-ordered way (notes_in r d most n (document_tree r d most n)) g))
 
   -- ---- the root
 
-  module _ (c : Document_) (v : Value) (small : IsSmall v) where
+  module _ (root : Root_) (c : Document_) (v : Value) (small : IsSmall v) where
     -- what refers to the root admits what the root admits
     through-root : admits r d v d.root ≡ admits r d v to_root
     through-root =
@@ -89,7 +92,7 @@ module _ (way : Way) (r : Relations) (lawful : IsLawful r) (d : Document) (guard
             λ i. sym x i && judge_within r d v ps (length d.definitions) d.root && sym y i && true
 
     root-used : (b : Bool) → refers_to_root d ≡ b → Keeps way (admits r d v d.root) (takes (table_of r d most n) r (root_use r d most n b) v)
-    root-used false e = (value-match way r lawful d guarded fits in_order most n c v small).agree d.root _ (n, root_spot r d most n, c.0, refl)
+    root-used false e = (value-match way r lawful d guarded fits in_order most n c v small).agree d.root _ (n, root_spot r d most n, root, refl)
     root-used true e = keep-from way _ _ _ through-root
         ((value-match way r lawful d guarded fits in_order most n c v small).agree to_root (reference the_root)
         (1, root_spot r d most n, (record { in_order = (record { apart = refl; led = refl; known = λ h. e }, tt, tt, tt); mergeable = ((tt, tt), tt, tt, tt); free = tt }, (tt, tt)), refl))
@@ -97,8 +100,9 @@ module _ (way : Way) (r : Relations) (lawful : IsLawful r) (d : Document) (guard
 pub conversion_agrees_with_merges : ConversionAgreesWithMerges
 conversion_agrees_with_merges way r lawful d most n guarded fits in_order f g v s =
     let c = clean way r lawful d guarded fits in_order most n f g in
-    all-keep way r lawful d guarded fits in_order most n c.0 v s (document_tree r d most n) c.1
+    all-keep way r lawful d guarded fits in_order most n c.1 v s (document_tree r d most n) c.2
 
 pub root_agrees_with_merges : RootAgreesWithMerges
 root_agrees_with_merges way r lawful d most n guarded fits in_order f g v s =
-    root-used way r lawful d guarded fits in_order most n (clean way r lawful d guarded fits in_order most n f g).0 v s (refers_to_root d) refl
+    let c = clean way r lawful d guarded fits in_order most n f g in
+    root-used way r lawful d guarded fits in_order most n c.0 c.1 v s (refers_to_root d) refl

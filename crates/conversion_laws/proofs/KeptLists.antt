@@ -4,26 +4,27 @@ use Rattle.std.specs.Prelude.{nat_lt, nat_le, if◌then◌else◌}
 use Rattle.schema_defs.specs.Schema.{ListRules, Schema, boolean, Lists, no_lists, lists, MaybeSchema, no_schema, the_schema, Schemas, no_more, schema, Places, no_items, each_item, by_place, Document}
 use Rattle.merge_defs.specs.Outcome.{Outcome, fault, never, answer, never_unless, of_clash, and_then, mapped}
 use Rattle.merge_defs.specs.Alike.{same_schemas}
-use Rattle.merge_defs.specs.Arrays.{two_contains, Front, schema_count, first_schemas, cut_to, alone, or_true, pairs, End, at_most, at_clash, goes_on, Merged, nothing_more, put, is_full, least_items, stands, ended_at, clash_at, at_place, by_places, rest_of, ending, placed, each_of_both, two_places, no_list_rules, kept_lists, with_front, two_rules, two_lists_parts}
-use Rattle.conversion_laws.specs.Keeping.{Always}
-use Rattle.convert_defs.specs.Proper.{IsProper, ProperLists, ProperMaybe, AllProper, ProperPlaces, of_any_size}
-use Rattle.conversion_laws.proofs.Always.{always-noted, always-then, always-mapped, always-if, always-any}
+use Rattle.merge_defs.specs.Leaves.{sizes_cross}
+use Rattle.merge_defs.specs.Arrays.{joined_rules, two_contains, Front, schema_count, first_schemas, cut_to, alone, or_true, pairs, End, at_most, at_clash, goes_on, Merged, nothing_more, put, is_full, least_items, stands, ended_at, clash_at, at_place, by_places, rest_of, ending, placed, each_of_both, two_places, no_list_rules, kept_lists, with_front, two_rules, two_lists_parts}
+use Rattle.conversion_laws.specs.Keeping.{Always, SizesAreKept}
+use Rattle.convert_defs.specs.Proper.{IsProper, ProperLists, ProperMaybe, AllProper, ProperPlaces}
+use Rattle.conversion_laws.proofs.Always.{always-noted, always-then, always-mapped, always-if}
 
-module _ (d : Document) where
+module _ (sized : ListRules → Type 0) (kept : SizesAreKept sized) (d : Document) where
   abbrev Is : Schema → Type 0
-  Is = IsProper of_any_size d
+  Is = IsProper sized d
 
   abbrev OfMaybe : MaybeSchema → Type 0
-  OfMaybe = ProperMaybe of_any_size d
+  OfMaybe = ProperMaybe sized d
 
   abbrev OfLists : Lists → Type 0
-  OfLists = ProperLists of_any_size d
+  OfLists = ProperLists sized d
 
   abbrev All : Schemas → Type 0
-  All = AllProper of_any_size d
+  All = AllProper sized d
 
   abbrev FrontHolds : Front → Type 0
-  FrontHolds f = ProperPlaces of_any_size d f.places × OfMaybe f.rest
+  FrontHolds f = ProperPlaces sized d f.places × OfMaybe f.rest
 
   contains-hold : (a b : MaybeSchema) → OfMaybe a → OfMaybe b → Always OfMaybe (two_contains a b)
   contains-hold no_schema b x y = y
@@ -43,7 +44,7 @@ module _ (d : Document) where
       by true = (first-hold n ss h, tt)
       by false = (h, g)
 
-  alone-holds : (o : Option ℕ) (p : Places) (rest : MaybeSchema) → ProperPlaces of_any_size d p → OfMaybe rest → FrontHolds (alone o p rest)
+  alone-holds : (o : Option ℕ) (p : Places) (rest : MaybeSchema) → ProperPlaces sized d p → OfMaybe rest → FrontHolds (alone o p rest)
   alone-holds o no_items rest h g = (tt, tt)
   alone-holds o (each_item s) rest h g = (h, tt)
   alone-holds o (by_place ss) rest h g = cut-holds o ss rest h g
@@ -123,7 +124,7 @@ module _ (d : Document) where
       each-holds (never ns) h = tt
       each-holds (answer ns s) h = (h, tt)
 
-      two-places : (p : Places) (x : MaybeSchema) (q : Places) (y : MaybeSchema) → ProperPlaces of_any_size d p → OfMaybe x → ProperPlaces of_any_size d q → OfMaybe y → Always FrontHolds (two_places join' array c p x q y)
+      two-places : (p : Places) (x : MaybeSchema) (q : Places) (y : MaybeSchema) → ProperPlaces sized d p → OfMaybe x → ProperPlaces sized d q → OfMaybe y → Always FrontHolds (two_places join' array c p x q y)
       two-places no_items x q y h f g k = alone-holds c.max_items q y g k
       two-places (each_item s) x no_items y h f g k = (h, tt)
       two-places (by_place ss) x no_items y h f g k = alone-holds c.max_items (by_place ss) x h f
@@ -132,11 +133,14 @@ module _ (d : Document) where
       two-places (by_place ss) x (each_item t) y h f g k = placed-hold false ss (or_true x) no_more t h (true-holds x f) tt g
       two-places (by_place ss) x (by_place ts) y h f g k = placed-hold true ss (or_true x) ts (or_true y) h (true-holds x f) g (true-holds y k)
 
+    rules-hold : (array : Bool) (c e : ListRules) → sized c → sized e → Always sized (two_rules array c e)
+    rules-hold array c e x y = always-if sized (sizes_cross (joined_rules c e).min_items (joined_rules c e).max_items) (never_unless array of_clash) (answer [] (joined_rules c e)) tt (kept.of_both c e x y)
+
     pub two-lists : (array : Bool) (ls ms : Lists) → OfLists ls → OfLists ms → Always OfLists (two_lists_parts join' array ls ms)
     two-lists array no_lists ms h g = g
     two-lists array (lists p x a c) no_lists h g = h
     two-lists array (lists p x a c) (lists q y b e) h g =
         always-then OfMaybe OfLists (two_contains a b) (λ contains. and_then (two_rules array c e) (λ sizes. mapped (with_front contains sizes) (two_places join' array sizes p x q y))) (contains-hold a b h.2 g.2)
-        (λ contains z. always-then (λ r. Unit {0}) OfLists (two_rules array c e) (λ sizes. mapped (with_front contains sizes) (two_places join' array sizes p x q y)) (always-any (two_rules array c e))
-        (λ sizes _. always-mapped FrontHolds OfLists (with_front contains sizes) (two_places join' array sizes p x q y) (two-places array sizes p x q y h.0 h.1 g.0 g.1)
-        (λ f u. kept-lists (lists f.places f.rest contains (record sizes { max_items = f.max_items })) (u.0, u.1, z, tt))))
+        (λ contains z. always-then sized OfLists (two_rules array c e) (λ sizes. mapped (with_front contains sizes) (two_places join' array sizes p x q y)) (rules-hold array c e h.3 g.3)
+        (λ sizes few. always-mapped FrontHolds OfLists (with_front contains sizes) (two_places join' array sizes p x q y) (two-places array sizes p x q y h.0 h.1 g.0 g.1)
+        (λ f u. kept-lists (lists f.places f.rest contains (record sizes { max_items = f.max_items })) (u.0, u.1, z, kept.up_to sizes f.max_items few))))

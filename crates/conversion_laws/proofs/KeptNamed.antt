@@ -1,7 +1,7 @@
 -- The keywords of members of a merge hold schemas that the merges of parts make, or that stood on one side; their names differ.
-use Rattle.std.proofs.Common.{◌≡◌, ℕ, List, [], ◌∷◌, ◌&&◌, ◌||◌, Bool, true, false, refl, ap, ◌∙◌, bytes_eq}
+use Rattle.std.proofs.Common.{ℕ, ◌≡◌, List, [], ◌∷◌, ◌&&◌, ◌||◌, Bool, true, false, refl, ap, ◌∙◌, bytes_eq}
 use Rattle.std.specs.Prelude.{if◌then◌else◌}
-use Rattle.schema_defs.specs.Schema.{MemberRules, Schema, boolean, object, Named, no_named, named, MaybeSchema, no_schema, the_schema, Properties, no_properties, property, Document}
+use Rattle.schema_defs.specs.Schema.{ListRules, MemberRules, Schema, boolean, object, Named, no_named, named, MaybeSchema, no_schema, the_schema, Properties, no_properties, property, Document}
 use Rattle.schema_defs.specs.Layer.{property_at}
 use Rattle.enum_defs.specs.Words.{is_name, names_of}
 use Rattle.merge_defs.specs.Outcome.{Outcome, fault, never, answer, Note, note_if, both_ways, of_names, of_clash, never_unless, noted, and_then, mapped}
@@ -10,22 +10,22 @@ use Rattle.merge_defs.specs.Objects.{all_names, beside, is_false, no_rest, put_p
 use Rattle.merge_defs.specs.Less.{less_property, less_name, less_properties, unless_needed, less_named}
 use Rattle.conversion_laws.specs.Keeping.{Always}
 use Rattle.convert_defs.specs.Apart.{differ, names_apart}
-use Rattle.convert_defs.specs.Proper.{IsProper, ProperNamed, ProperMaybe, ProperProperties, of_any_size}
+use Rattle.convert_defs.specs.Proper.{IsProper, ProperNamed, ProperMaybe, ProperProperties}
 use Rattle.conversion_laws.proofs.Always.{always-noted, always-then, always-mapped, always-or_else, always-if}
 use Rattle.conversion_laws.proofs.Names.{right, all-names-differ, Some_of, none-of, one-left-out, one-more}
 
-module _ (d : Document) where
+module _ (sized : ListRules → Type 0) (d : Document) where
   abbrev Is : Schema → Type 0
-  Is = IsProper of_any_size d
+  Is = IsProper sized d
 
   abbrev OfMaybe : MaybeSchema → Type 0
-  OfMaybe = ProperMaybe of_any_size d
+  OfMaybe = ProperMaybe sized d
 
   abbrev OfProperties : Properties → Type 0
-  OfProperties = ProperProperties of_any_size d
+  OfProperties = ProperProperties sized d
 
   abbrev pub OfNamed : Named → Type 0
-  OfNamed ns = (names_apart ns ≡ true) × ProperNamed of_any_size d ns
+  OfNamed ns = (names_apart ns ≡ true) × ProperNamed sized d ns
 
   -- properties with some of the names
   abbrev Among : List (List ℕ) → Properties → Type 0

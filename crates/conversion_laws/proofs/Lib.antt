@@ -6,7 +6,7 @@ mod KeptLists
 mod KeptNamed
 pub mod KeptProper
 pub mod KeptEnds
-mod Deep
+pub mod Deep
 mod InsideOwners
 mod InsideShapes
 mod InsideMembers
@@ -15,13 +15,14 @@ mod ProperParts
 mod Throughout
 mod Standings
 mod Layer
-mod Clean
-mod Targets
-mod Merging
-mod Agreeing
+pub mod Clean
+pub mod Targets
+pub mod Merging
+pub mod Agreeing
 mod Notes
-mod FineTrees
+pub mod FineTrees
 pub mod Conversion
 mod SameEntries
 pub mod MoreLevels
 pub mod DocumentLevels
+mod Ordered

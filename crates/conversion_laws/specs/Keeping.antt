@@ -1,11 +1,12 @@
 -- What merges by walks keep: names that differ, references that lead, and how far references lead at one value.
-use Rattle.std.specs.Prelude.{ℕ, List}
-use Rattle.schema_defs.specs.Schema.{Schema, boolean, object, Same, no_same, same_value, Lists, Named, MaybeSchema, no_schema, the_schema, MaybeSchemas, no_list, the_list, Schemas, no_more, schema, Document}
+use Rattle.std.specs.Prelude.{ℕ, List, Option}
+use Rattle.schema_defs.specs.Schema.{ListRules, Schema, boolean, object, Same, no_same, same_value, Lists, Named, MaybeSchema, no_schema, the_schema, MaybeSchemas, no_list, the_list, Schemas, no_more, schema, Document}
 use Rattle.schema_defs.proofs.Spare.{Given, Ends}
 use Rattle.merge_defs.specs.Outcome.{Outcome, fault, never, answer}
+use Rattle.merge_defs.specs.Arrays.{joined_rules}
 use Rattle.merge_defs.specs.Members.{only_same}
 use Rattle.merge_walks.specs.Walked.{join_by_walks, less_by_walks, merge_by_walks, with_by_walks}
-use Rattle.convert_defs.specs.Proper.{IsProper, ProperSame, AllProper, of_any_size, IsProperDocument}
+use Rattle.convert_defs.specs.Proper.{IsProper, ProperSame, AllProper, AllAreProper, of_any_size}
 
 -- P of what is answered
 abbrev pub Always : {A : Type 0} → (A → Type 0) → Outcome A → Type 0
@@ -45,9 +46,17 @@ pub record Keep (P : Schema → Type 0) (OfSame : Same → Type 0) (OfAll : Sche
   pub with_all : (b : Schema) (ss : Same) → P b → OfSame ss → Always P (with_by_walks d most n b ss)
   pub gathers : (ss : Schemas) → OfAll ss → Always P (merge_by_walks d most n ss)
 
--- in each schema names differ, references lead, and a `#` is known to the document
+-- what is asked of the rules of lists holds of both rules in one, and with whatever greatest number of items
+pub record SizesAreKept (sized : ListRules → Type 0) : Type 0 where
+  pub of_both : (c e : ListRules) → sized c → sized e → sized (joined_rules c e)
+  pub up_to : (c : ListRules) (most : Option ℕ) → sized c → sized (record c { max_items = most })
+
+-- in each schema names differ, references lead, and a `#` is known to the document; sizes are as they should be
+abbrev pub AreKeptProper : (ListRules → Type 0) → Type 0
+AreKeptProper sized = (d : Document) → AllAreProper sized d → (most n : ℕ) → Keep (IsProper sized d) (ProperSame sized d) (AllProper sized d) d most n
+
 abbrev pub MergesAreProper : Type 0
-MergesAreProper = (d : Document) → IsProperDocument d → (most n : ℕ) → Keep (IsProper of_any_size d) (ProperSame of_any_size d) (AllProper of_any_size d) d most n
+MergesAreProper = AreKeptProper of_any_size
 
 -- walks of references at one value are no longer
 abbrev pub EndsSame : Document → ℕ → Same → Type 0

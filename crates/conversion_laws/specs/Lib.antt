@@ -1,3 +1,4 @@
 pub mod Keeping
 pub mod Levels
 pub mod LevelExamples
+pub mod Ordered

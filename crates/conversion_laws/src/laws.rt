@@ -2,6 +2,7 @@
 
 ghost use Rattle.conversion_laws.specs.Keeping.{MergesAreProper, MergesEnd};
 ghost use Rattle.conversion_laws.specs.Levels.{RowsStay, TreesStay, EntriesStay, ToldStays, DocumentsStay};
+ghost use Rattle.conversion_laws.specs.Ordered.{NotesAreOrdered, SameNotesAreOne};
 ghost use Rattle.merging_laws.specs.Conversion.{ConversionAgreesWithMerges, RootAgreesWithMerges};
 
 /// In a document without faults, without narrowed notes each value that a schema of the conversion tree admits is one that its entry takes, and without
@@ -48,4 +49,14 @@ pub fn told_stays()
 /// A document without faults is converted to the same with more levels.
 pub fn documents_stay()
     ensures { DocumentsStay }
+{}
+
+/// The notes of a document come in their order, each once: by place, then by kind, then narrowed before widened. They are those that they were made of.
+pub fn notes_are_ordered()
+    ensures { NotesAreOrdered }
+{}
+
+/// Notes of one place, kind and way are one note.
+pub fn same_notes_are_one()
+    ensures { SameNotesAreOne }
 {}

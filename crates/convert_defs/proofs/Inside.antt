@@ -1,7 +1,7 @@
--- The parts of a row are inside the schema: so each schema of a conversion tree is in order where the document is.
-use Rattle.std.proofs.Common.{◌≡◌, ℕ, zero, suc, List, [], ◌∷◌, ◌++◌, map, filter, flat_map, Bool, true, false, ◌&&◌, ◌||◌, not, Option, Some, None, is_none, is_some, option_map, option_and_then, refl, sym, ap, ◌∙◌, subst, true≢false, codes, bytes_eq}
+-- The parts of a row are inside the schema: each of them is in order where the schema is.
+use Rattle.std.proofs.Common.{◌≡◌, ℕ, zero, suc, List, [], ◌∷◌, ◌++◌, map, filter, flat_map, Bool, true, false, ◌&&◌, ◌||◌, not, Option, Some, None, is_none, is_some, option_map, option_and_then, refl, sym, ap, ◌∙◌, subst, codes, bytes_eq}
 use Rattle.std.specs.Prelude.{if◌then◌else◌, nat_le, length}
-use Rattle.std.specs.List.{list_all, list_any, AllByRecursion}
+use Rattle.std.specs.List.{list_all, list_any}
 use Rattle.json_value.specs.Value.{Value}
 use Rattle.schema_defs.specs.declared.Setting.{Setting}
 use Rattle.schema_defs.specs.declared.Setting.TheVariants.{Strict}
@@ -10,13 +10,12 @@ use Rattle.schema_defs.specs.declared.InstanceType.TheVariants.{Null, Boolean, O
 use Rattle.schema_defs.specs.declared.Format.{Format}
 use Rattle.schema_defs.specs.Location.{Step, Location}
 use Rattle.schema_defs.specs.Texts.{Relations}
-use Rattle.schema_defs.specs.Schema.{Plain, Schema, boolean, object, Same, no_same, same_value, Lists, no_lists, lists, Named, no_named, named, MaybeSchema, no_schema, the_schema, MaybeSchemas, no_list, the_list, Schemas, no_more, schema, Places, no_items, each_item, by_place, Properties, no_properties, property, ListRules, MemberRules, Definition, Document}
+use Rattle.schema_defs.specs.Schema.{Plain, Schema, boolean, object, Same, same_value, Lists, no_lists, lists, Named, no_named, named, MaybeSchema, no_schema, the_schema, no_list, the_list, Schemas, no_more, schema, Places, no_items, each_item, by_place, Properties, no_properties, property, ListRules, MemberRules, Document}
 use Rattle.schema_defs.specs.Layer.{is_given}
-use Rattle.schema_defs.specs.Admits.{definition_location}
 use Rattle.model_defs.specs.Model.{allow_rule, deny_rule}
 use Rattle.model_defs.specs.Layer.{is_null, is_text, is_boolean}
 use Rattle.entry_defs.specs.Entry.{Target, unit_entry}
-use Rattle.convert_defs.specs.Row.{Part, child, of_branch, lone, made, FieldRow, field_parts, outside_parts, further_parts, VariantRow, body_parts, variants_parts, Row, leaf_row, option_row, ruled_row, vec_row, set_row, map_row, refused_row, row_parts, noted, plainly, asking, here, narrowed, widened, null_note, string_note, names_note, not_note, bad_array, bad_value, mixed_enum, nested_enum, bad_not, names as names_cause}
+use Rattle.convert_defs.specs.Row.{Part, made, FieldRow, field_parts, outside_parts, further_parts, VariantRow, body_parts, variants_parts, Row, leaf_row, option_row, ruled_row, vec_row, set_row, map_row, refused_row, row_parts, noted, plainly, asking, here, narrowed, widened, null_note, string_note, names_note, not_note, bad_array, bad_value, mixed_enum, nested_enum, bad_not, names as names_cause}
 use Rattle.convert_defs.specs.Standing.{of_type, less_enum, alone, no_keyword}
 use Rattle.enum_defs.specs.Words.{same_type, has_type, without_same, without_lists, is_bare, names_of, all_some, is_name}
 use Rattle.convert_defs.specs.IntegerRow.{note_if}
@@ -25,88 +24,22 @@ use Rattle.convert_defs.specs.Owners.{part_at, each_part, listed_parts, unlisted
 use Rattle.convert_defs.proofs.PlacedShapes.{ObjectShape, object_shape, shape_of_named, text_case, listed_texts, unit_rows, external_case, case_or, one_property, lone_property, property_row, if_distinct, are_distinct, branch_fields, internal_variant, adjacent_variant}
 use Rattle.convert_defs.specs.Shapes.{Member, schemas_of, external_members, members_from, option_member as option_shape, less_property, placed_field, body_of_field, body_of_fields, internal_members as internal_shape, TaggedShape, adjacent_members as adjacent_shape}
 use Rattle.enum_defs.specs.Shapes.{the_only as only_one, is_null_schema, closed_by as is_closed}
-use Rattle.convert_defs.specs.Apart.{is_apart, all_apart, members_apart, branches_apart}
 use Rattle.enum_defs.specs.Exclusive.{exclusive}
-use Rattle.convert_defs.specs.Table.{Line, lines, first_line, nullable, type_beside_null, lists_only_nulls, beside_null, reference_row, row_of_target, target_of, allowed_row, listed, with_type, only_type, type_variant, type_among, of_kinds, variant_order, type_of_listed, has_one_type, no_others, constant_of, constant_finding, constant_list, subschema_finding, finding_or, all_of_finding, any_of_finding, any_of_others, one_of_finding, one_of_only, one_of_internal, one_of_adjacent, one_of_external, one_of_option, only_member, not_finding, deny, under_not, denied, untagged_row, untagged_variant, finding_of, row_of}
-use Rattle.convert_defs.specs.RootReference.{is_root, has_root, root_in_same, root_in_lists, root_in_named, root_in_maybe, root_in_members, root_in_all, root_in_places, root_in_properties, refers_to_root}
-use Rattle.convert_defs.specs.Convert.{Handed, most_made, root_name, Node, Tree, cut_branches, tree, inner_tree, made_tree, parts_tree, definition_tree, definition_trees, document_tree}
-use Rattle.convert_defs.specs.Laws.{IsRead, AllNodes}
-use Rattle.convert_defs.specs.Proper.{AreProper, IsProper, ProperSame, ProperLists, ProperNamed, ProperMaybe, ProperMembers, AllProper, ProperPlaces, ProperProperties, AllAreProper}
+use Rattle.convert_defs.specs.Table.{Line, lines, first_line, nullable, type_beside_null, lists_only_nulls, beside_null, reference_row, row_of_target, target_of, allowed_row, listed, with_type, only_type, type_variant, type_among, of_kinds, variant_order, type_of_listed, has_one_type, no_others, constant_of, constant_finding, constant_list, subschema_finding, finding_or, all_of_finding, any_of_finding, any_of_others, one_of_finding, one_of_only, one_of_internal, one_of_adjacent, one_of_external, one_of_option, only_member, not_finding, deny, under_not, denied, untagged_row, untagged_variant, row_of}
+use Rattle.convert_defs.specs.RootReference.{refers_to_root}
+use Rattle.convert_defs.specs.Convert.{tree}
+use Rattle.convert_defs.specs.Proper.{AreProper, IsProper, ProperSame, ProperLists, ProperNamed, ProperMaybe, AllProper, ProperPlaces, ProperProperties}
 use Rattle.convert_defs.proofs.Views.{schema_of, AllParts}
 use Rattle.convert_defs.proofs.Rows.{parts-left, parts-right}
 use Rattle.convert_defs.proofs.Bare.{impossible, none-some, some-same}
 use Rattle.convert_defs.proofs.SameShapes.{whole, external-found, internal-found, adjacent-found}
 
 module _ (sized : ListRules → Type 0) (d : Document) where
-  -- ---- what is in order is read
-
   abbrev Known : Bool → Type 0
   Known b = b ≡ true → refers_to_root d ≡ true
 
-  either-known : (a b : Bool) → Known a → Known b → Known (a || b)
-  either-known true b f g = λ h. f refl
-  either-known false b f g = g
-
   never-known : Known false
   never-known h = impossible h
-
-  mutual
-    known-in : (s : Schema) → IsProper sized d s → Known (has_root s)
-    known-in (boolean b) h = never-known
-    known-in (object p ss ls ns) h = either-known (is_root p.reference) _ h.0.known (either-known (root_in_same ss) _ (known-same ss h.1) (either-known (root_in_lists ls) _ (known-lists ls h.2) (known-named ns h.3)))
-
-    known-same : (ss : Same) → ProperSame sized d ss → Known (root_in_same ss)
-    known-same no_same h = never-known
-    known-same (same_value all any one none conditional) h = either-known (root_in_members all) _ (known-members all h.0) (either-known (root_in_members any) _ (known-members any h.1) (either-known (root_in_members one) _ (known-members one h.2) (known-maybe none h.3)))
-
-    known-lists : (ls : Lists) → ProperLists sized d ls → Known (root_in_lists ls)
-    known-lists no_lists h = never-known
-    known-lists (lists places others contains rules) h = either-known (root_in_places places) _ (known-places places h.0) (either-known (root_in_maybe others) _ (known-maybe others h.1) (known-maybe contains h.2))
-
-    known-named : (ns : Named) → ProperNamed sized d ns → Known (root_in_named ns)
-    known-named no_named h = never-known
-    known-named (named props patterns others names rules) h = either-known (root_in_properties props) _ (known-properties props h.0) (either-known (root_in_properties patterns) _ (known-properties patterns h.1) (either-known (root_in_maybe others) _ (known-maybe others h.2) (known-maybe names h.3)))
-
-    known-maybe : (m : MaybeSchema) → ProperMaybe sized d m → Known (root_in_maybe m)
-    known-maybe no_schema h = never-known
-    known-maybe (the_schema s) h = known-in s h
-
-    known-members : (m : MaybeSchemas) → ProperMembers sized d m → Known (root_in_members m)
-    known-members no_list h = never-known
-    known-members (the_list ss) h = known-all ss h
-
-    known-all : (ss : Schemas) → AllProper sized d ss → Known (root_in_all ss)
-    known-all no_more h = never-known
-    known-all (schema s ss) h = either-known (has_root s) _ (known-in s h.0) (known-all ss h.1)
-
-    known-places : (m : Places) → ProperPlaces sized d m → Known (root_in_places m)
-    known-places no_items h = never-known
-    known-places (each_item s) h = known-in s h
-    known-places (by_place ss) h = known-all ss h
-
-    known-properties : (ps : Properties) → ProperProperties sized d ps → Known (root_in_properties ps)
-    known-properties no_properties h = never-known
-    known-properties (property k s ps) h = either-known (has_root s) _ (known-in s h.0) (known-properties ps h.1)
-
-  one-apart : (s : Schema) → IsProper sized d s → is_apart s ≡ true
-  one-apart (boolean b) h = refl
-  one-apart (object p ss ls ns) h = h.0.apart
-
-  all-apart : (ss : Schemas) → AllProper sized d ss → all_apart ss ≡ true
-  all-apart no_more h = refl
-  all-apart (schema s ss) h = λ i. one-apart s h.0 i && all-apart ss h.1 i
-
-  members-are-apart : (m : MaybeSchemas) → ProperMembers sized d m → members_apart m ≡ true
-  members-are-apart no_list h = refl
-  members-are-apart (the_list ss) h = all-apart ss h
-
-  branches-are-apart : (ss : Same) → ProperSame sized d ss → branches_apart ss ≡ true
-  branches-are-apart no_same h = refl
-  branches-are-apart (same_value all any one none conditional) h = λ i. members-are-apart any h.1 i && members-are-apart one h.2 i
-
-  is-read : (s : Schema) → IsProper sized d s → IsRead d s
-  is-read (boolean b) h = record { apart = tt; known = never-known; leads = tt }
-  is-read (object p ss ls ns) h = record { apart = λ i. h.0.apart i && branches-are-apart ss h.1 i; known = known-in (object p ss ls ns) h; leads = h.0.led }
 
   -- ---- parts
 
@@ -619,55 +552,3 @@ module _ (sized : ListRules → Type 0) (d : Document) where
   parts-in r (boolean true) h = tt
   parts-in r (boolean false) h = tt
   parts-in r (object p ss ls ns) h = first-in r p ss ls ns h (lines r d p ss ls ns) (lines-in r p ss ls ns h)
-
-  -- ---- the tree
-
-  abbrev IsReadNode : Node → Type 0
-  IsReadNode t = t.is_deep ≡ false → IsRead d t.schema
-
-  nodes-both : (xs ys : List Node) → AllNodes IsReadNode xs → AllNodes IsReadNode ys → AllNodes IsReadNode (xs ++ ys)
-  nodes-both [] ys h g = g
-  nodes-both (x ∷ xs) ys h g = (h.0, nodes-both xs ys h.1 g)
-
-  abbrev Holds : Tree → Type 0
-  Holds t = (h : Handed) (l : Location) (s : Schema) → IsProper sized d s → AllNodes IsReadNode (t h l s)
-
-  cuts-read : (n : ℕ) (l : Location) (ms : List Member) → AllNodes IsReadNode (cut_branches n l ms)
-  cuts-read (suc n) l ms = tt
-  cuts-read zero l [] = tt
-  cuts-read zero l (m ∷ ms) = ((λ e. absurd (true≢false e)), cuts-read zero l ms)
-
-  module _ (below inner made_here : Tree) (f : Holds below) (k : Holds inner) (g : Holds made_here) where
-    parts-read : (h : Handed) (l : Location) (ps : List Part) → AllParts In ps → AllNodes IsReadNode (parts_tree below inner made_here h l ps)
-    parts-read h l [] x = tt
-    parts-read h l (child e s ∷ ps) x = nodes-both (below None (l ++ e) s) _ (f None (l ++ e) s x.0) (parts-read h l ps x.1)
-    parts-read h l (of_branch e s ∷ ps) x = nodes-both (inner None (l ++ e) s) _ (k None (l ++ e) s x.0) (parts-read h l ps x.1)
-    parts-read h l (lone e s ∷ ps) x = nodes-both (below h (l ++ e) s) _ (f h (l ++ e) s x.0) (parts-read h l ps x.1)
-    parts-read h l (made s ∷ ps) x = nodes-both (made_here h l s) _ (g h l s x.0) (parts-read h l ps x.1)
-
-  module _ (r : Relations) where
-    made-read : (n : ℕ) → Holds (tree r d n) → Holds (inner_tree r d n) → (m : ℕ) → Holds (made_tree r d n (tree r d n) (inner_tree r d n) m)
-    made-read n f k zero h l s x = ((λ e. absurd (true≢false e)), tt)
-    made-read n f k (suc m) h l s x = (
-      (λ e. is-read s x),
-      nodes-both (cut_branches n l (finding_of r d s).branches) _ (cuts-read n l (finding_of r d s).branches)
-          (parts-read (tree r d n) (inner_tree r d n) (made_tree r d n (tree r d n) (inner_tree r d n) m) f k (made-read n f k m) h l (row_parts (row_of r d s)) (parts-in r s x)),
-    )
-
-    mutual
-      tree-read : (n : ℕ) → Holds (tree r d n)
-      tree-read zero h l s x = ((λ e. absurd (true≢false e)), tt)
-      tree-read (suc n) h l s x = made-read n (tree-read n) (inner-read n) most_made h l s x
-
-      inner-read : (n : ℕ) → Holds (inner_tree r d n)
-      inner-read zero h l s x = ((λ e. absurd (true≢false e)), tt)
-      inner-read (suc n) h l s x = tree-read n h l s x
-
-    module _ (depth : ℕ) where
-      definitions-read : (ds : List Definition) → AllByRecursion (λ e. IsProper sized d e.body) ds → AllNodes IsReadNode (definition_trees r d depth ds)
-      definitions-read [] h = tt
-      definitions-read (e ∷ ds) h = nodes-both (definition_tree r d depth e) _ (tree-read (suc depth) (Some e.name) (definition_location e) e.body h.0) (definitions-read ds h.1)
-
-      -- the tree of a document that is in order
-      pub tree-is-read : AllAreProper sized d → AllNodes IsReadNode (document_tree r d depth)
-      tree-is-read h = nodes-both (definition_trees r d depth d.definitions) _ (definitions-read d.definitions h.definitions) (tree-read (suc depth) (Some (root_name d.root)) [] d.root h.root)

@@ -31,10 +31,7 @@ pub mod TypeLists
 pub mod Listed
 pub mod Constants
 pub mod Alone
-pub mod Targets
 pub mod Fine
-pub mod Law
-pub mod Fit
+pub mod Weaker
 pub mod Inside
-pub mod Ordered
 pub mod Chains

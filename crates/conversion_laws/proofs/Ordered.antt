@@ -10,9 +10,11 @@ use Rattle.std.proofs.lemmas.Map.Text.{is_eq-slice_cmp}
 use Rattle.std.proofs.lemmas.Slice.Eq.{bytes_eq-Decides}
 use Rattle.std.proofs.lemmas.Bool.{ltb-false, eq-eqb, eqb-true}
 use Rattle.schema_defs.specs.Location.{Step, Location}
-use Rattle.convert_defs.specs.Row.{Note}
-use Rattle.convert_defs.specs.Order.{kind_number, way_number, is_less, place_before, same_place, same_note, comes_before, inserted, ordered, Rise, has_note, NotesAreOrdered}
+use Rattle.convert_defs.specs.Row.{Way, narrowed, widened, untyped_note, null_note, const_note, integer_note, string_note, array_note, open_branch_note, mixed_branches_note, tag_alone_note, boolean_note, type_note, overlap_note, counts_note, names_note, not_note}
+use Rattle.convert_defs.specs.Order.{way_number, is_less, place_before, same_place}
 use Rattle.convert_defs.proofs.Bare.{and_left, and_right, impossible}
+use Rattle.convert_walks.specs.Told.{NoteName, row_note, reference_note, formats_note, clash_note, members_note, subtract_note, absent_note, Note, note_number, same_note, comes_before, inserted, ordered}
+use Rattle.conversion_laws.specs.Ordered.{Rise, has_note, NotesAreOrdered, SameNotesAreOne}
 
 -- ---- of two notes one comes first, or they are the same
 
@@ -67,7 +69,7 @@ equal-turned x y h = eq-eqb y x (sym (eqb-true x y h))
 
 -- by place, then by kind, then by way
 three : (a a' p p' k k' q q' w w' v : Bool) → (a || p || a') ≡ true → (p ≡ true → p' ≡ true) → (k || q || k') ≡ true → (q ≡ true → q' ≡ true) → (w || v || w') ≡ true
-    → ((a || (p && (k || (q && w)))) || (p && q && v) || (a' || (p' && (k' || (q' && w'))))) ≡ true
+    → ((a || (p && (k || (q && w)))) || (p && (q && v)) || (a' || (p' && (k' || (q' && w'))))) ≡ true
 three true a' p p' k k' q q' w w' v h f g e t = refl
 three false true p p' k k' q q' w w' v h f g e t = or-true _
   where
@@ -91,9 +93,9 @@ three false false true p' k k' q q' w w' v h f g e t = same p' (f refl) k k' q q
 
 one-comes : (a b : Note) → (comes_before a b || same_note a b || comes_before b a) ≡ true
 one-comes a b = three (place_before a.place b.place) (place_before b.place a.place) (same_place a.place b.place) (same_place b.place a.place)
-    (nat_lt (kind_number a.kind) (kind_number b.kind)) (nat_lt (kind_number b.kind) (kind_number a.kind)) (nat_eq (kind_number a.kind) (kind_number b.kind)) (nat_eq (kind_number b.kind) (kind_number a.kind))
+    (nat_lt (note_number a.name) (note_number b.name)) (nat_lt (note_number b.name) (note_number a.name)) (nat_eq (note_number a.name) (note_number b.name)) (nat_eq (note_number b.name) (note_number a.name))
     (nat_lt (way_number a.way) (way_number b.way)) (nat_lt (way_number b.way) (way_number a.way)) (nat_eq (way_number a.way) (way_number b.way))
-    (one-first a.place b.place) (same-turned a.place b.place) (numbers (kind_number a.kind) (kind_number b.kind)) (equal-turned (kind_number a.kind) (kind_number b.kind)) (numbers (way_number a.way) (way_number b.way))
+    (one-first a.place b.place) (same-turned a.place b.place) (numbers (note_number a.name) (note_number b.name)) (equal-turned (note_number a.name) (note_number b.name)) (numbers (way_number a.way) (way_number b.way))
 
 -- ---- insertion
 
@@ -139,10 +141,11 @@ same-location (a ∷ ls) (b ∷ ms) h = let f = (bytes_eq-Decides a b).0 (and_le
 
 alike : (k n m : Note) → same_note n m ≡ true → same_note k n ≡ same_note k m
 alike k n m h =
-    let a = same-location n.place m.place (and_left _ _ (and_left _ _ h)) in
-    let b = eqb-true (kind_number n.kind) (kind_number m.kind) (and_right (same_place n.place m.place) _ (and_left _ _ h)) in
-    let c = eqb-true (way_number n.way) (way_number m.way) (and_right (same_place n.place m.place && nat_eq (kind_number n.kind) (kind_number m.kind)) _ h) in
-    λ i. same_place k.place (a i) && nat_eq (kind_number k.kind) (b i) && nat_eq (way_number k.way) (c i)
+    let a = same-location n.place m.place (and_left (same_place n.place m.place) _ h) in
+    let r = and_right (same_place n.place m.place) _ h in
+    let b = eqb-true (note_number n.name) (note_number m.name) (and_left (nat_eq (note_number n.name) (note_number m.name)) _ r) in
+    let c = eqb-true (way_number n.way) (way_number m.way) (and_right (nat_eq (note_number n.name) (note_number m.name)) _ r) in
+    λ i. same_place k.place (a i) && (nat_eq (note_number k.name) (b i) && nat_eq (way_number k.way) (c i))
 
 twice : (a b : Bool) → (a || b) ≡ (a || (a || b))
 twice true b = refl
@@ -169,3 +172,69 @@ all-had k (n ∷ ns) = inserted-has k n (ordered ns) ∙ ap (λ b. same_note k n
 
 pub notes_are_ordered : NotesAreOrdered
 notes_are_ordered ns = (all-rise ns, λ n. all-had n ns)
+
+-- ---- numbers tell names and ways apart
+
+abbrev name_at : ℕ → NoteName
+name_at n =
+    if nat_eq n 1 then row_note untyped_note else
+    if nat_eq n 2 then row_note null_note else
+    if nat_eq n 3 then row_note const_note else
+    if nat_eq n 4 then row_note integer_note else
+    if nat_eq n 5 then row_note string_note else
+    if nat_eq n 6 then row_note array_note else
+    if nat_eq n 7 then row_note open_branch_note else
+    if nat_eq n 8 then row_note mixed_branches_note else
+    if nat_eq n 9 then row_note tag_alone_note else
+    if nat_eq n 10 then row_note boolean_note else
+    if nat_eq n 11 then row_note type_note else
+    if nat_eq n 12 then row_note overlap_note else
+    if nat_eq n 13 then row_note counts_note else
+    if nat_eq n 14 then row_note names_note else
+    if nat_eq n 15 then row_note not_note else
+    if nat_eq n 16 then reference_note else
+    if nat_eq n 17 then formats_note else
+    if nat_eq n 18 then clash_note else
+    if nat_eq n 19 then members_note else
+    if nat_eq n 20 then subtract_note else
+    absent_note
+
+name_back : (k : NoteName) → name_at (note_number k) ≡ k
+name_back (row_note untyped_note) = refl
+name_back (row_note null_note) = refl
+name_back (row_note const_note) = refl
+name_back (row_note integer_note) = refl
+name_back (row_note string_note) = refl
+name_back (row_note array_note) = refl
+name_back (row_note open_branch_note) = refl
+name_back (row_note mixed_branches_note) = refl
+name_back (row_note tag_alone_note) = refl
+name_back (row_note boolean_note) = refl
+name_back (row_note type_note) = refl
+name_back (row_note overlap_note) = refl
+name_back (row_note counts_note) = refl
+name_back (row_note names_note) = refl
+name_back (row_note not_note) = refl
+name_back reference_note = refl
+name_back formats_note = refl
+name_back clash_note = refl
+name_back members_note = refl
+name_back subtract_note = refl
+name_back absent_note = refl
+
+abbrev way_at : ℕ → Way
+way_at n = if nat_eq n 0 then narrowed else widened
+
+way_back : (w : Way) → way_at (way_number w) ≡ w
+way_back narrowed = refl
+way_back widened = refl
+
+pub same_notes_are_one : SameNotesAreOne
+same_notes_are_one m n h =
+    let a = same-location m.place n.place (and_left (same_place m.place n.place) _ h) in
+    let r = and_right (same_place m.place n.place) _ h in
+    let b = eqb-true (note_number m.name) (note_number n.name) (and_left (nat_eq (note_number m.name) (note_number n.name)) _ r) in
+    let c = eqb-true (way_number m.way) (way_number n.way) (and_right (nat_eq (note_number m.name) (note_number n.name)) _ r) in
+    let names = sym (name_back m.name) ∙ ap name_at b ∙ name_back n.name in
+    let ways = sym (way_back m.way) ∙ ap way_at c ∙ way_back n.way in
+    λ i. record { way = ways i; name = names i; place = a i }
