@@ -15,16 +15,7 @@ use Rattle.schema_laws.proofs.Reading.{document_fine}
 use Rattle.convert_defs.specs.Apart.{names_apart}
 use Rattle.convert_defs.specs.RootReference.{is_root, has_root, root_in_same, root_in_lists, root_in_named, root_in_maybe, root_in_members, root_in_all, root_in_places, root_in_properties, refers_to_root}
 use Rattle.convert_defs.specs.Proper.{leads, IsProper, ProperSame, ProperLists, ProperNamed, ProperMaybe, ProperMembers, AllProper, ProperPlaces, ProperProperties, AllAreProper, of_any_size}
-use Rattle.convert_defs.proofs.Law.{conversion_agrees, root_agrees}
-use Rattle.convert_defs.proofs.Fit.{tables_are_fit}
-use Rattle.convert_defs.specs.Convert.{table_of}
-use Rattle.convert_defs.proofs.Keeps.{keep-to}
-use Rattle.naming_defs.specs.Good.{is_good_name}
-use Rattle.naming_defs.proofs.Good.{numbered_names_are_good}
-use Rattle.naming_defs.proofs.Fresh.{names_are_good}
-use Rattle.naming_defs.proofs.Sound.{named_tables_are_sound}
-use Rattle.naming_defs.proofs.Meaning.{naming_keeps_meaning}
-use Rattle.document_laws.specs.Laws.{WasRead, AsksForFew, DocumentsAreProper, DocumentsAreSized, ReadDocumentsAgree, ReadRootsAgree, ReadTablesAreFit, ReadDocumentsArePlanned, ReadPlansAgree}
+use Rattle.document_laws.specs.Laws.{WasRead, AsksForFew, DocumentsAreProper, DocumentsAreSized}
 use Rattle.document_laws.proofs.Apart.{Apart, ApartSame, ApartLists, ApartNamed, ApartMaybe, ApartList, ApartAll, ApartPlaces, ApartNames, ApartDefinitions, ApartDocument}
 use Rattle.document_laws.proofs.NamesRead.{document_apart}
 
@@ -143,21 +134,3 @@ documents_are_proper = of-read of_any_size (λ rules h. tt)
 
 pub documents_are_sized : DocumentsAreSized
 documents_are_sized = of-read AsksForFew (λ rules h. h)
-
-pub read_documents_agree : ReadDocumentsAgree
-read_documents_agree way r d depth w c v s = conversion_agrees way r d depth w.read.guarded c.faultless c.noteless (documents_are_proper d w) v s
-
-pub read_roots_agree : ReadRootsAgree
-read_roots_agree way r d depth w c v s = root_agrees way r d depth w.read.guarded c.faultless c.noteless (documents_are_proper d w) v s
-
-pub read_tables_are_fit : ReadTablesAreFit
-read_tables_are_fit r d depth w = tables_are_fit r d depth w.read.guarded (documents_are_proper d w)
-
-pub read_documents_are_planned : ReadDocumentsArePlanned
-read_documents_are_planned r d depth w = record {
-  sound = named_tables_are_sound is_good_name (table_of r d depth) (read_tables_are_fit r d depth w);
-  named = names_are_good is_good_name (table_of r d depth) numbered_names_are_good;
-}
-
-pub read_plans_agree : ReadPlansAgree
-read_plans_agree way r d depth w c v s = keep-to way _ _ _ (read_roots_agree way r d depth w c v s) (sym (naming_keeps_meaning is_good_name (table_of r d depth) r v))

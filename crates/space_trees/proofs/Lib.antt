@@ -4,9 +4,6 @@ pub mod Enters
 pub mod Kept
 pub mod Standing
 pub mod Tables
-pub mod RowForm
-pub mod NamedForm
-pub mod MadeForm
 pub mod PartSteps
 pub mod Copied
 pub mod Steps

@@ -4,4 +4,3 @@ pub mod Formed
 pub mod Filled
 pub mod Leading
 pub mod Parts
-pub mod Laws

@@ -4,7 +4,6 @@
 mod copies;
 mod entering;
 mod finish;
-pub mod laws;
 mod led;
 mod table;
 mod trees;

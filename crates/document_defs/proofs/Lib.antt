@@ -1,5 +1,0 @@
-pub mod Deep
-pub mod Rows
-pub mod Findings
-pub mod Shaped
-pub mod Composed

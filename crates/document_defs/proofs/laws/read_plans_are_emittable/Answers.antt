@@ -1,5 +1,0 @@
-use Rattle.document_defs.proofs.Shaped.{read_plans_are_emittable}
-use Rattle.document_defs.proofs.laws.read_plans_are_emittable.Goals as goal
-
-pub returns : goal.returns
-returns c = read_plans_are_emittable

@@ -1,5 +1,0 @@
-use Rattle.document_defs.proofs.Shaped.{read_tables_are_shaped}
-use Rattle.document_defs.proofs.laws.read_tables_are_shaped.Goals as goal
-
-pub returns : goal.returns
-returns c = read_tables_are_shaped

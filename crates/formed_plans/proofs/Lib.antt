@@ -1,0 +1,4 @@
+mod RowForm
+pub mod NamedForm
+mod MadeForm
+pub mod Plans

@@ -1,0 +1,8 @@
+//! What holds of all tables of documents whose rows may merge: the law is the contract of a function that does nothing.
+
+ghost use Rattle.formed_plans.specs.Laws.{PlansAreFormed};
+
+/// The trees of a document's table, with names, are formed.
+pub fn plans_are_formed()
+    ensures { PlansAreFormed }
+{}

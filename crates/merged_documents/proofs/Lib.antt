@@ -1,0 +1,14 @@
+mod Types
+mod TenKeywords
+mod Reading
+pub mod Mergeable
+mod Leading
+mod RowsAsk
+mod RowsFit
+pub mod Fit
+pub mod Documents
+pub mod Deep
+mod ShapedRows
+mod ShapedFindings
+pub mod Shaped
+pub mod Composed

@@ -1,4 +1,0 @@
-pub mod Leaves
-pub mod Quiet
-pub mod Named
-pub mod Converted

@@ -1,0 +1,11 @@
+use Rattle.std.proofs.Common.{refl}
+use Rattle.std.specs.Str.{chars, is_utf8}
+use Rattle.std.specs.Fmt.{digits}
+use Rattle.schema_defs.specs.Location.{place}
+use Rattle.schema_defs.specs.Read.{document_of, definitions_of, schema_of, plain_of, numbers_of, texts_of, same_of, lists_of, named_of}
+use Rattle.unicode_ident.proofs.Computing.{unicode_ident}
+use Rattle.stated_walks.proofs.examples.too_many_steps.Goals as goal
+
+pub returns : goal.returns
+unfolding chars is_utf8 digits document_of definitions_of schema_of plain_of numbers_of texts_of same_of lists_of named_of place unicode_ident lib.Utf8.encode
+returns c = record { none_is_told = refl }
