@@ -10,8 +10,8 @@ use Rattle.std.proofs.lemmas.List.{map-append}
 use Rattle.std.proofs.lemmas.Bool.{ltb-true, eqb-true}
 use Rattle.std.proofs.lemmas.Map.Text.{is_eq-slice_cmp}
 use Rattle.schema_defs.specs.Location.{Location}
-use Rattle.convert_defs.specs.Row.{Note}
-use Rattle.convert_defs.specs.Order.{kind_number, way_number, is_less, place_before, same_place, same_note, comes_before, inserted, ordered}
+use Rattle.convert_defs.specs.Order.{way_number, is_less, place_before, same_place}
+use Rattle.convert_walks.specs.Told.{Note, note_number, same_note, comes_before, inserted, ordered}
 use Rattle.note_order.specs.First.{note_cmp}
 use Rattle.note_order.specs.Notes.{placed_view, notes_view}
 use Rattle.note_order.specs.declared.note.PlacedNote.{PlacedNote}
@@ -62,19 +62,19 @@ equal_is x y = by (nat_lt x y) refl (nat_eq x y) refl
 -- ---- notes
 
 whole-by : {X : Type 0} (o k w : Ordering) (sp pb ke kl we wl : Bool) (x y z : X) → sp ≡ is_eq o → pb ≡ is_lt o → ke ≡ is_eq k → kl ≡ is_lt k → we ≡ is_eq w → wl ≡ is_lt w
-    → match_ordering (ordering_then o (ordering_then k w)) x y z ≡ (if sp && ke && we then y else if pb || (sp && (kl || (ke && wl))) then x else z)
-whole-by Less k w sp pb ke kl we wl x y z a b c d e f = λ i. if sym a i && ke && we then y else if sym b i || (sym a i && (kl || (ke && wl))) then x else z
-whole-by Greater k w sp pb ke kl we wl x y z a b c d e f = λ i. if sym a i && ke && we then y else if sym b i || (sym a i && (kl || (ke && wl))) then x else z
-whole-by Equal Less w sp pb ke kl we wl x y z a b c d e f = λ i. if sym a i && sym c i && we then y else if sym b i || (sym a i && (sym d i || (sym c i && wl))) then x else z
-whole-by Equal Greater w sp pb ke kl we wl x y z a b c d e f = λ i. if sym a i && sym c i && we then y else if sym b i || (sym a i && (sym d i || (sym c i && wl))) then x else z
-whole-by Equal Equal Less sp pb ke kl we wl x y z a b c d e f = λ i. if sym a i && sym c i && sym e i then y else if sym b i || (sym a i && (sym d i || (sym c i && sym f i))) then x else z
-whole-by Equal Equal Equal sp pb ke kl we wl x y z a b c d e f = λ i. if sym a i && sym c i && sym e i then y else if sym b i || (sym a i && (sym d i || (sym c i && sym f i))) then x else z
-whole-by Equal Equal Greater sp pb ke kl we wl x y z a b c d e f = λ i. if sym a i && sym c i && sym e i then y else if sym b i || (sym a i && (sym d i || (sym c i && sym f i))) then x else z
+    → match_ordering (ordering_then o (ordering_then k w)) x y z ≡ (if sp && (ke && we) then y else if pb || (sp && (kl || (ke && wl))) then x else z)
+whole-by Less k w sp pb ke kl we wl x y z a b c d e f = λ i. if sym a i && (ke && we) then y else if sym b i || (sym a i && (kl || (ke && wl))) then x else z
+whole-by Greater k w sp pb ke kl we wl x y z a b c d e f = λ i. if sym a i && (ke && we) then y else if sym b i || (sym a i && (kl || (ke && wl))) then x else z
+whole-by Equal Less w sp pb ke kl we wl x y z a b c d e f = λ i. if sym a i && (sym c i && we) then y else if sym b i || (sym a i && (sym d i || (sym c i && wl))) then x else z
+whole-by Equal Greater w sp pb ke kl we wl x y z a b c d e f = λ i. if sym a i && (sym c i && we) then y else if sym b i || (sym a i && (sym d i || (sym c i && wl))) then x else z
+whole-by Equal Equal Less sp pb ke kl we wl x y z a b c d e f = λ i. if sym a i && (sym c i && sym e i) then y else if sym b i || (sym a i && (sym d i || (sym c i && sym f i))) then x else z
+whole-by Equal Equal Equal sp pb ke kl we wl x y z a b c d e f = λ i. if sym a i && (sym c i && sym e i) then y else if sym b i || (sym a i && (sym d i || (sym c i && sym f i))) then x else z
+whole-by Equal Equal Greater sp pb ke kl we wl x y z a b c d e f = λ i. if sym a i && (sym c i && sym e i) then y else if sym b i || (sym a i && (sym d i || (sym c i && sym f i))) then x else z
 
 whole_is : {X : Type 0} (n m : Note) (x y z : X) → match_ordering (note_cmp n m) x y z ≡ (if same_note n m then y else if comes_before n m then x else z)
 whole_is n m x y z =
-    whole-by (slice_cmp (slice_cmp nat_cmp) n.place m.place) (nat_cmp (kind_number n.kind) (kind_number m.kind)) (nat_cmp (way_number n.way) (way_number m.way)) _ _ _ _ _ _ x y z
-    (same_is n.place m.place) (before_is n.place m.place) (equal_is (kind_number n.kind) (kind_number m.kind)) (less_is (kind_number n.kind) (kind_number m.kind)) (equal_is (way_number n.way) (way_number m.way)) (less_is (way_number n.way) (way_number m.way))
+    whole-by (slice_cmp (slice_cmp nat_cmp) n.place m.place) (nat_cmp (note_number n.name) (note_number m.name)) (nat_cmp (way_number n.way) (way_number m.way)) _ _ _ _ _ _ x y z
+    (same_is n.place m.place) (before_is n.place m.place) (equal_is (note_number n.name) (note_number m.name)) (less_is (note_number n.name) (note_number m.name)) (equal_is (way_number n.way) (way_number m.way)) (less_is (way_number n.way) (way_number m.way))
 
 -- ---- insertion
 

@@ -4,5 +4,5 @@
 mod note;
 mod sorted;
 
-pub use note::PlacedNote;
+pub use note::{NoteName, PlacedNote};
 pub use sorted::ordered_notes;

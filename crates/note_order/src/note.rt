@@ -4,19 +4,32 @@ ghost use Rattle.std.specs.Ordering.{eq_by_cmp, nat_cmp};
 ghost use Rattle.std.specs.Cmp.{on_equiv, on_per, on_po, on_total, partial_equiv_from_equiv, partial_order_from_total};
 ghost use Rattle.std.specs.Cmp.Lexicographic.{slice_cmp};
 ghost use Rattle.convert_defs.specs.Order.{kind_number as kind_number_of, way_number as way_number_of};
+ghost use Rattle.convert_walks.specs.Told.{note_number as note_number_of};
 ghost use Rattle.row_types.specs.View.{kind_view, way_view};
-ghost use Rattle.note_order.specs.Notes.{placed_view};
+ghost use Rattle.note_order.specs.Notes.{name_view, placed_view};
 ghost use Rattle.note_order.specs.First.{note_cmp, note_equiv, note_total};
 
 use row_types::{NoteKind, Way};
 use schema_types::Location;
 use std::cmp::Ordering;
 
+/// Of a row, or of a merge alone.
+#[derive(Clone, Copy)]
+pub enum NoteName {
+    Row(NoteKind),
+    Reference,
+    Formats,
+    Clash,
+    Members,
+    Subtract,
+    Absent,
+}
+
 /// What conversion doesn't keep, and where. Notes are ordered by place, step by step, then by kind, then narrowed before widened.
 #[derive(Drop)]
 pub struct PlacedNote {
     pub way: Way,
-    pub kind: NoteKind,
+    pub name: NoteName,
     pub path: Location,
 }
 
@@ -39,6 +52,20 @@ fn kind_number(kind: NoteKind) -> u8
         NoteKind::Counts => 13,
         NoteKind::Names => 14,
         NoteKind::Not => 15,
+    }
+}
+
+fn note_number(name: NoteName) -> u8
+    ensures { result ≡ note_number_of (name_view name) }
+{
+    match name {
+        NoteName::Row(kind) => kind_number(kind),
+        NoteName::Reference => 16,
+        NoteName::Formats => 17,
+        NoteName::Clash => 18,
+        NoteName::Members => 19,
+        NoteName::Subtract => 20,
+        NoteName::Absent => 21,
     }
 }
 
@@ -68,9 +95,9 @@ fn compare(first: &PlacedNote, second: &PlacedNote) -> Ordering
     ensures { result ≡ note_cmp (placed_view first.now) (placed_view second.now) }
 {
     let path = compare_paths(&first.path, &second.path);
-    let kind = compare_numbers(kind_number(first.kind), kind_number(second.kind));
+    let name = compare_numbers(note_number(first.name), note_number(second.name));
     let way = compare_numbers(way_number(first.way), way_number(second.way));
-    path.then(kind.then(way))
+    path.then(name.then(way))
 }
 
 impl PartialEq for PlacedNote {

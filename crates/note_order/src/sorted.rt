@@ -1,7 +1,7 @@
 //! Notes in their order.
 ghost use Rattle.std.specs.Prelude.{◌≡◌, IfOk};
 ghost use Rattle.std.specs.BTreeSet.{keys};
-ghost use Rattle.convert_defs.specs.Order.{ordered};
+ghost use Rattle.convert_walks.specs.Told.{ordered};
 ghost use Rattle.note_order.specs.Notes.{notes_view};
 
 use crate::note::PlacedNote;

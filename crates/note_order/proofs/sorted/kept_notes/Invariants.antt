@@ -1,5 +1,5 @@
 use Rattle.std.proofs.Common.{◌≡◌, length}
-use Rattle.convert_defs.specs.Order.{ordered}
+use Rattle.convert_walks.specs.Told.{ordered}
 use Rattle.note_order.specs.Notes.{notes_view}
 use Rattle.note_order.proofs.Kept.{onto}
 use Rattle.note_order.proofs.sorted.kept_notes.Given as goal

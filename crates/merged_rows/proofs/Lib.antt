@@ -1,0 +1,12 @@
+pub mod Trails
+pub mod Branches
+pub mod NonNull
+pub mod Copied
+pub mod Merges
+pub mod Standings
+pub mod Causes
+pub mod Turns
+pub mod Inside
+pub mod PartTurns
+pub mod Written
+pub mod Counted

@@ -1,0 +1,4 @@
+pub mod Starts
+pub mod Rows
+pub mod Told
+pub mod Examples

@@ -1,0 +1,5 @@
+pub mod Definitions
+pub mod Levels
+pub mod Listed
+pub mod Merges
+pub mod Examples
