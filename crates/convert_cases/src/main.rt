@@ -11,6 +11,7 @@ use case_words::fault_text;
 use convert_trees::table_of;
 use notes::{push_notes, push_unread};
 use regex_texts::RegexTexts;
+use row_merges::{levels, merges_of};
 use schema_tree::Document;
 use serde_json::Value;
 use std::alloc::{AllocError, Global};
@@ -60,7 +61,10 @@ fn converted(
     document: &Document,
     texts: &mut RegexTexts,
 ) -> Result<String, AllocError> {
-    match table_of(alloc, document, depth, texts) {
+    let Ok(merges) = merges_of(alloc, document, depth, levels()) else {
+        return String::from_str(alloc, "no merges");
+    };
+    match table_of(alloc, document, &merges, depth, levels(), texts) {
         Ok(found) => {
             let mut line = String::new(alloc);
             push_table(&mut line, &found.table)?;

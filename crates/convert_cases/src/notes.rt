@@ -1,5 +1,6 @@
 //! Notes, and listed values, as text.
 use convert_trees::{PlacedNote, Unread};
+use note_order::NoteName;
 use row_types::{NoteKind, Way};
 use std::alloc::{AllocError, Global};
 use std::fmt::Write;
@@ -13,7 +14,7 @@ pub(crate) fn push_notes(
     for note in notes {
         let path = note.path.text(alloc)?;
         let way = way_word(note.way);
-        let kind = kind_word(note.kind);
+        let kind = name_word(note.name);
         write!(out, "; {way} {kind} {path}")?;
     }
     Ok(())
@@ -39,6 +40,18 @@ fn way_word(way: Way) -> &'static str {
     match way {
         Way::Narrowed => "narrowed",
         Way::Widened => "widened",
+    }
+}
+
+fn name_word(name: NoteName) -> &'static str {
+    match name {
+        NoteName::Row(kind) => kind_word(kind),
+        NoteName::Reference => "reference",
+        NoteName::Formats => "formats",
+        NoteName::Clash => "clash",
+        NoteName::Members => "members",
+        NoteName::Subtract => "subtract",
+        NoteName::Absent => "absent",
     }
 }
 

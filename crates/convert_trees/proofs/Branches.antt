@@ -1,47 +1,56 @@
 -- Branches to which no step is left.
-use Rattle.std.specs.Prelude.{slice_get, Some}
-use Rattle.std.proofs.Common.{◌≡◌, ℕ, zero, suc, ◌+◌, ◌<◌, List, [], ◌∷◌, ◌++◌, map, refl, sym, ap, subst, ◌∙◌, arith}
+use Rattle.std.proofs.Common.{◌≡◌, ℕ, ◌+◌, ◌<◌, ◌≤◌, List, [], ◌∷◌, ◌++◌, Bool, true, false, None, ◌⊎◌, length, map, drop, get_or, refl, sym, ap, subst, ◌∙◌}
 use Rattle.schema_defs.specs.Location.{Location}
 use Rattle.schema_defs.specs.Texts.{Relations}
 use Rattle.schema_defs.specs.Schema.{Schema, Document}
-use Rattle.convert_defs.specs.Convert.{cut_branches, cut_node}
+use Rattle.merge_walks.specs.Carried.{has_more_steps}
+use Rattle.convert_walks.specs.Spot.{Spot, spot_inside}
+use Rattle.convert_walks.specs.Tree.{Node, cut, too_many_steps, deep_branches}
 use Rattle.row_types.specs.declared.finding.Branch.{Branch}
-use Rattle.row_types.specs.View.{branch_view, steps_view}
-use Rattle.schema_tree.specs.Fault.{FaultD}
-use Rattle.convert_trees.specs.Places.{TellsDepth}
+use Rattle.row_types.specs.View.{branch_view}
+use Rattle.schema_tree.specs.Fault.{FaultD, memory, depth}
 use Rattle.convert_trees.specs.Told.{Refuses}
-use Rattle.convert_trees.proofs.Telling.{refuses_deep, refuses_first}
+use Rattle.convert_trees.proofs.Defaults.{drop_past}
+use Rattle.convert_trees.proofs.Telling.{cut_refuses, refuses_first}
+use Rattle.attr_parts.proofs.Added.{mapped_drop}
 
-pub no_branch_is_cut : (n : ℕ) (l : Location) (ms : List (Location × Schema)) → 0 < n → cut_branches n l ms ≡ []
-no_branch_is_cut zero l ms h = absurd (omega arith)
-no_branch_is_cut (suc n) l ms h = refl
+module _ (r : Relations) (d : Document) (most : ℕ) (o : Spot) where
+  abbrev there : Location × Schema → Spot
+  there m = spot_inside o None m.0 m.1
 
-pub first_is_cut : (r : Relations) (d : Document) (most : ℕ) (start : Location) (f : FaultD) (old new : ℕ) (n : ℕ) (l : Location) (m : Location × Schema) (ms : List (Location × Schema))
-    → n ≡ 0 → TellsDepth start (most + 1) (l ++ m.0) f → Refuses r d most start old new (cut_branches n l (m ∷ ms)) f
-first_is_cut r d most start f old new zero l m ms e t =
-    refuses_first r d most start f old new (cut_node (l ++ m.0) m.1 ∷ []) (cut_branches zero l ms) (refuses_deep r d most start f old new (l ++ m.0) m.1 (most + 1) refl t)
-first_is_cut r d most start f old new (suc n) l m ms e t = absurd (omega (arith, e))
+  abbrev cut_if : Bool → Location × Schema → List Node → List Node
+  cut_if b m ts = elim b [ true ↦ cut too_many_steps (there m) m.1 ∷ ts | false ↦ ts ]
 
-pub none_is_cut : (n : ℕ) (l : Location) (ms : List (Location × Schema)) → ms ≡ [] → cut_branches n l ms ≡ []
-none_is_cut n l ms e = ap (cut_branches n l) e ∙ nothing n
-  where
-    nothing : (n : ℕ) → cut_branches n l [] ≡ []
-    nothing zero = refl
-    nothing (suc n) = refl
+  pub one_left : (m : Location × Schema) → has_more_steps most (there m).walk ≡ false → deep_branches r d most o (m ∷ []) ≡ []
+  one_left m e = ap (λ b. cut_if b m []) e
 
-pub first_of_cut : (r : Relations) (d : Document) (most : ℕ) (start : Location) (f : FaultD) (old new : ℕ) (n : ℕ) (l : Location) (m : Location × Schema) (ms whole : List (Location × Schema))
-    → whole ≡ m ∷ ms → n ≡ 0 → TellsDepth start (most + 1) (l ++ m.0) f → Refuses r d most start old new (cut_branches n l whole) f
-first_of_cut r d most start f old new n l m ms whole g e t =
-    subst (λ (whole : List (Location × Schema)). Refuses r d most start old new (cut_branches n l whole) f) (sym g) (first_is_cut r d most start f old new n l m ms e t)
+  pub one_cut : (n : ℕ) (m : Location × Schema) (f : FaultD) (a b : ℕ) → has_more_steps most (there m).walk ≡ true → (f ≡ memory) ⊎ (f ≡ depth (there m).walk) → Refuses r d most n a b (deep_branches r d most o (m ∷ [])) f
+  one_cut n m f a b e h = subst (λ (ts : List Node). Refuses r d most n a b ts f) (sym (ap (λ b. cut_if b m []) e)) (cut_refuses r d most n f a b (there m) m.1 h)
 
--- the first branch of a list of them
-module _ (r : Relations) (d : Document) (most : ℕ) (start : Location) (f : FaultD) (old new : ℕ) (n : ℕ) (l : Location) (b : Branch) (z : n ≡ 0) (t : TellsDepth start (most + 1) (l ++ steps_view b.place) f) where
-  first_found : (xs : List Branch) → Some b ≡ slice_get xs 0 → Refuses r d most start old new (cut_branches n l (map branch_view xs)) f
-  first_found [] e = absurd (cc)
-  first_found (x ∷ xs) e =
-      let k : Some b ≡ Some x = e in
-      let same : b ≡ x = cc in
-      first_of_cut r d most start f old new n l (branch_view x) (map branch_view xs) (map branch_view (x ∷ xs)) refl z (subst (λ (b : Branch). TellsDepth start (most + 1) (l ++ steps_view b.place) f) same t)
+  with_more : (b : Bool) (m : Location × Schema) (ts : List Node) → cut_if b m ts ≡ cut_if b m [] ++ ts
+  with_more true m ts = refl
+  with_more false m ts = refl
 
-  pub first_branch_cut : (xs ys : List Branch) → Some b ≡ slice_get xs 0 → xs ≡ ys → Refuses r d most start old new (cut_branches n l (map branch_view ys)) f
-  first_branch_cut xs ys e g = subst (λ (xs : List Branch). Refuses r d most start old new (cut_branches n l (map branch_view xs)) f) g (first_found xs e)
+  both : (m : Location × Schema) (ms : List (Location × Schema)) → deep_branches r d most o (m ∷ ms) ≡ deep_branches r d most o (m ∷ []) ++ deep_branches r d most o ms
+  both m ms = with_more (has_more_steps most (there m).walk) m (deep_branches r d most o ms)
+
+  -- ---- one branch after another
+
+  abbrev left : List Branch → ℕ → List Node
+  left bs i = deep_branches r d most o (map branch_view (drop i bs))
+
+  next : (bs : List Branch) (i : ℕ) (q : Branch) → i < length bs → q ≡ get_or bs i q → left bs i ≡ deep_branches r d most o (branch_view q ∷ []) ++ left bs (i + 1)
+  next bs i q h e = ap (deep_branches r d most o) (mapped_drop branch_view bs i q h e) ∙ both (branch_view q) (map branch_view (drop (i + 1) bs))
+
+  pub branch_next : (bs : List Branch) (i : ℕ) (q : Branch) → i < length bs → q ≡ get_or bs i q → deep_branches r d most o (branch_view q ∷ []) ≡ []
+      → left bs i ≡ deep_branches r d most o (map branch_view bs) → left bs (i + 1) ≡ deep_branches r d most o (map branch_view bs)
+  branch_next bs i q h e k w = sym (next bs i q h e ∙ ap (λ ts. ts ++ left bs (i + 1)) k) ∙ w
+
+  pub no_branch : (bs all : List Branch) (i : ℕ) → length bs ≤ i → bs ≡ all → left bs i ≡ deep_branches r d most o (map branch_view bs) → deep_branches r d most o (map branch_view all) ≡ []
+  no_branch bs all i h e w = ap (λ bs. deep_branches r d most o (map branch_view bs)) (sym e) ∙ sym w ∙ ap (λ bs. deep_branches r d most o (map branch_view bs)) (drop_past bs i h)
+
+  pub branch_refuses : (n : ℕ) (f : FaultD) (a b : ℕ) (bs all : List Branch) (i : ℕ) (q : Branch) → i < length bs → q ≡ get_or bs i q → bs ≡ all → left bs i ≡ deep_branches r d most o (map branch_view bs)
+      → Refuses r d most n a b (deep_branches r d most o (branch_view q ∷ [])) f → Refuses r d most n a b (deep_branches r d most o (map branch_view all)) f
+  branch_refuses n f a b bs all i q h e g w k =
+      subst (λ (ts : List Node). Refuses r d most n a b ts f) (sym (next bs i q h e) ∙ w ∙ ap (λ bs. deep_branches r d most o (map branch_view bs)) g)
+      (refuses_first r d most n f a b (deep_branches r d most o (branch_view q ∷ [])) (left bs (i + 1)) k)

@@ -6,15 +6,14 @@ use Rattle.schema_defs.specs.Location.{Location}
 use Rattle.schema_defs.specs.Texts.{Relations}
 use Rattle.schema_defs.specs.Schema.{Schema, Document}
 use Rattle.entry_defs.specs.Entry.{Target}
-use Rattle.convert_defs.specs.Row.{Row, refused_row, merged_row, Part, Finding, plainly, Cause, mix, places, bad_pattern}
+use Rattle.convert_defs.specs.Row.{Row, refused_row, Finding, plainly, Cause, mix, places, bad_pattern}
 use Rattle.convert_defs.specs.Table.{target_of, row_of_target, reference_row}
 use Rattle.convert_defs.specs.Faults.{row_faults, fault_if, finding_faults}
 use Rattle.row_types.specs.declared.finding.Cause.{Cause as CodeCause}
 use Rattle.row_types.specs.declared.finding.Cause.TheVariants as causes
 use Rattle.row_types.specs.View.{cause_view}
-use Rattle.schema_tree.specs.declared.fault.UnsupportedKind.TheVariants as kind
-use Rattle.schema_tree.specs.Fault.{FaultD, memory, unsupported}
-use Rattle.convert_trees.specs.Told.{mix_kind, told_cause, no_memory, RefusesBy, unanswered, by_cause, RowRefuses, without_memory, by_refusal, by_merge}
+use Rattle.schema_tree.specs.Fault.{FaultD, memory}
+use Rattle.convert_trees.specs.Told.{told_cause, no_memory, RefusesBy, unanswered, by_cause, RowRefuses, without_memory, by_refusal}
 
 pub led : (q : List ℕ) (t : Target) → Some t ≡ target_of q → (r : Relations) (d : Document) (n : ℕ) → row_faults r d n (reference_row (Some q)) ≡ []
 led q t e r d n = subst (λ (o : Option Target). row_faults r d n (row_of_target o) ≡ []) e refl
@@ -27,10 +26,6 @@ pub row_refused : (l : Location) (s : Schema) (w : Row) (c : CodeCause) (f : Fau
 row_refused l s w c f e (inl h) = without_memory h
 row_refused l s w c f e (inr h) = by_refusal c e h
 
-pub row_merged : (l : Location) (s : Schema) (w : Row) (ps : List Part) (f : FaultD) → w ≡ merged_row ps → (f ≡ memory) ⊎ (f ≡ unsupported l kind.NotYet) → RowRefuses l s w f
-row_merged l s w ps f e (inl h) = without_memory h
-row_merged l s w ps f e (inr h) = by_merge ps e h
-
 pub reference_refused : (l : Location) (s : Schema) (q : List ℕ) (f : FaultD) → None ≡ target_of q
     → (f ≡ memory) ⊎ (f ≡ told_cause l s (plainly (refused_row mix)) mix) → RowRefuses l s (reference_row (Some q)) f
 reference_refused l s q f e h = row_refused l s (reference_row (Some q)) causes.Mix f (not_led q e) h
@@ -40,7 +35,7 @@ reference_refused l s q f e h = row_refused l s (reference_row (Some q)) causes.
 same_told : (l : Location) (s : Schema) (fd : Finding) (c : CodeCause) → fd.row ≡ refused_row (cause_view c)
     → told_cause l s (plainly (refused_row (cause_view c))) (cause_view c) ≡ told_cause l s fd (cause_view c)
 same_told l s fd causes.Conditional e = refl
-same_told l s fd causes.Mix e = ap (λ w. unsupported l (mix_kind w)) (sym e)
+same_told l s fd causes.Mix e = refl
 same_told l s fd causes.MixedEnum e = refl
 same_told l s fd causes.NestedEnum e = refl
 same_told l s fd causes.Not e = refl
@@ -52,7 +47,6 @@ module _ (l : Location) (s : Schema) (fd : Finding) (old new : ℕ) (f : FaultD)
   pub by_row : (r : Relations) (d : Document) (n : ℕ) → RowRefuses l s fd.row f → RefusesBy l s fd old new (row_faults r d n fd.row) f
   by_row r d n (without_memory h) = unanswered (no_memory h)
   by_row r d n (by_refusal c e h) = by_cause (cause_view c) [] (ap (row_faults r d n) e) (h ∙ same_told l s fd c e)
-  by_row r d n (by_merge ps e h) = by_cause mix [] (ap (row_faults r d n) e) (h ∙ ap (λ w. unsupported l (mix_kind w)) (sym e))
 
   pub by_first : (cs ds : List Cause) → RefusesBy l s fd old new cs f → RefusesBy l s fd old new (cs ++ ds) f
   by_first cs ds (unanswered h) = unanswered h

@@ -1,5 +1,5 @@
 -- The definitions of a document, one after another.
-use Rattle.std.proofs.Common.{◌≡◌, ℕ, suc, List, [], ◌∷◌, ◌++◌, map, sym, ap, subst, ◌∙◌, inr, append_assoc, append-nil}
+use Rattle.std.proofs.Common.{◌≡◌, ℕ, List, [], ◌∷◌, ◌++◌, map, sym, ap, subst, ◌∙◌, append_assoc, append-nil}
 use Rattle.std.specs.Prelude.{Some, Contains, option_map}
 use Rattle.schema_defs.specs.Texts.{Relations}
 use Rattle.schema_defs.specs.Schema.{Schema, Definition, Document}
@@ -8,17 +8,25 @@ use Rattle.schema_defs.specs.Laws.{NamesRise}
 use Rattle.schema_defs.proofs.Stand.{first_in, rest_in}
 use Rattle.entry_defs.specs.Entry.{definition}
 use Rattle.entry_defs.specs.Table.{TargetEntry, ItemEntry}
-use Rattle.convert_defs.specs.Convert.{Node, as_item, definition_entry, definition_target, definition_tree, definition_trees, raw_entry, tree}
+use Rattle.convert_defs.specs.Convert.{as_item}
+use Rattle.convert_walks.specs.Tree.{Node, definition_spot, definition_target, definition_trees, entry_at, tree_at}
 use Rattle.schema_tree.specs.Fault.{FaultD}
 use Rattle.root_references.proofs.Found.{found, stands_at}
-use Rattle.convert_trees.specs.Tables.{is_under_defs}
+use Rattle.row_merges.specs.Definitions.{is_under_defs, begun_at, named_spot}
+use Rattle.row_merges.specs.Merges.{merges_in}
 use Rattle.convert_trees.specs.Keeping.{KeptD}
-use Rattle.convert_trees.specs.Told.{IsTold, Refuses, by_none, by_fault, RefusesAll, by_want, by_node}
-use Rattle.convert_trees.proofs.Telling.{Passed, passed_none, passed_on, passed_all, passed_refuses}
+use Rattle.convert_trees.specs.Told.{IsTold, Refuses, Begins}
+use Rattle.convert_trees.proofs.Telling.{Passed, passed_none, passed_on, passed_all, passed_refuses, passed_begins}
 
-module _ (r : Relations) (d : Document) (most : ℕ) where
+module _ (r : Relations) (d : Document) (most m : ℕ) where
   abbrev pub targets_from : List Definition → List TargetEntry
-  targets_from es = map (definition_target r d most) es
+  targets_from es = map (definition_target r d most m) es
+
+  abbrev pub all_trees : List Node
+  all_trees = definition_trees r d most m d.definitions
+
+  abbrev pub tree_of : Definition → List Node
+  tree_of e = tree_at r d most m (definition_spot r d most m e) e.body
 
   -- the definitions that are left, by their names
   pub record Left (names : List (List ℕ)) (targets : List TargetEntry) (old new : KeptD) : Type 0 where
@@ -26,7 +34,7 @@ module _ (r : Relations) (d : Document) (most : ℕ) where
     pub names_are : names ≡ map (λ e. e.name) rest
     pub among : (e : Definition) → Contains rest e → Contains d.definitions e
     pub targets_are : targets ++ targets_from rest ≡ targets_from d.definitions
-    pub told : Passed r d most (definition_trees r d most d.definitions) (definition_trees r d most rest) old new
+    pub told : Passed r d most m all_trees (definition_trees r d most m rest) old new
 
   pub left_all : (k : KeptD) (names : List (List ℕ)) (targets : List TargetEntry) → names ≡ map (λ e. e.name) d.definitions → targets ≡ [] → Left names targets k k
   left_all k names targets e g = record {
@@ -34,7 +42,7 @@ module _ (r : Relations) (d : Document) (most : ℕ) where
     names_are = e;
     among = λ x c. c;
     targets_are = ap (λ ts. ts ++ targets_from d.definitions) g;
-    told = passed_none r d most (definition_trees r d most d.definitions) k;
+    told = passed_none r d most m all_trees k;
   }
 
   -- the first of those that are left
@@ -46,11 +54,11 @@ module _ (r : Relations) (d : Document) (most : ℕ) where
     pub names_are : names ≡ map (λ e. e.name) behind
     pub among : (e : Definition) → Contains behind e → Contains d.definitions e
     pub targets_are : targets ++ targets_from (here ∷ behind) ≡ targets_from d.definitions
-    pub told : Passed r d most (definition_trees r d most d.definitions) (definition_tree r d most here ++ definition_trees r d most behind) old new
+    pub told : Passed r d most m all_trees (tree_of here ++ definition_trees r d most m behind) old new
 
   first_of : (rest : List Definition) (n : List ℕ) (names : List (List ℕ)) (targets : List TargetEntry) (old new : KeptD)
       → n ∷ names ≡ map (λ e. e.name) rest → ((e : Definition) → Contains rest e → Contains d.definitions e) → targets ++ targets_from rest ≡ targets_from d.definitions
-      → Passed r d most (definition_trees r d most d.definitions) (definition_trees r d most rest) old new → First n names targets old new
+      → Passed r d most m all_trees (definition_trees r d most m rest) old new → First n names targets old new
   first_of [] n names targets old new e a t p = absurd (cc)
   first_of (x ∷ xs) n names targets old new e a t p = record {
     here = x;
@@ -76,35 +84,38 @@ module _ (r : Relations) (d : Document) (most : ℕ) where
     place_is : definition_word (is_under_defs d n) ∷ n ∷ [] ≡ definition_location f.here
     place_is = ap (λ n. definition_word (is_under_defs d n) ∷ n ∷ []) (sym f.name_is) ∙ stands_at d f.here (found d.definitions rise f.here f.stands)
 
-    tree_is : (s : Schema) → s ≡ f.here.body → tree r d (suc most) (Some n) (definition_word (is_under_defs d n) ∷ n ∷ []) s ≡ definition_tree r d most f.here
-    tree_is s e = λ i. tree r d (suc most) (Some (sym f.name_is i)) (place_is i) (e i)
+    spot_is : named_spot d n ≡ definition_spot r d most m f.here
+    spot_is = λ i. begun_at (place_is i) (Some (sym f.name_is i))
 
-    pub goes_on : (s : Schema) (item : ItemEntry) (later : KeptD) (targets' : List TargetEntry) → s ≡ f.here.body → item ≡ as_item n (raw_entry r d (suc most) (Some n) s)
+    tree_is : (s : Schema) → s ≡ f.here.body → tree_at r d most m (named_spot d n) s ≡ tree_of f.here
+    tree_is s e = λ i. tree_at r d most m (spot_is i) (e i)
+
+    pub goes_on : (s : Schema) (item : ItemEntry) (later : KeptD) (targets' : List TargetEntry) → s ≡ f.here.body → item ≡ as_item n (entry_at r d most m (named_spot d n) s)
         → targets' ≡ targets ++ record { target = definition n; led_to = item } ∷ []
-        → IsTold r d most (tree r d (suc most) (Some n) (definition_word (is_under_defs d n) ∷ n ∷ []) s) new later → Left names targets' old later
+        → IsTold r d most m (tree_at r d most m (named_spot d n) s) new later → Left names targets' old later
     goes_on s item later targets' e i g t =
-        let led : item ≡ as_item f.here.name (definition_entry r d most f.here) = i ∙ (λ j. as_item (sym f.name_is j) (raw_entry r d (suc most) (Some (sym f.name_is j)) (e j))) in
-        let here_is : record { target = definition n; led_to = item } ≡ definition_target r d most f.here = λ j. record { target = definition (sym f.name_is j); led_to = led j } in
+        let led : item ≡ as_item f.here.name (entry_at r d most m (definition_spot r d most m f.here) f.here.body) = i ∙ (λ j. as_item (sym f.name_is j) (entry_at r d most m (spot_is j) (e j))) in
+        let here_is : record { target = definition n; led_to = item } ≡ definition_target r d most m f.here = λ j. record { target = definition (sym f.name_is j); led_to = led j } in
         record {
           rest = f.behind;
           names_are = f.names_are;
           among = f.among;
           targets_are = ap (λ ts. ts ++ targets_from f.behind) g ∙ append_assoc targets _ (targets_from f.behind) ∙ ap (λ x. targets ++ x ∷ targets_from f.behind) here_is ∙ f.targets_are;
-          told = passed_on r d most (definition_trees r d most d.definitions) (definition_tree r d most f.here) (definition_trees r d most f.behind) old new later f.told
-              (subst (λ (ts : List Node). IsTold r d most ts new later) (tree_is s e) t);
+          told = passed_on r d most m all_trees (tree_of f.here) (definition_trees r d most m f.behind) old new later f.told
+              (subst (λ (ts : List Node). IsTold r d most m ts new later) (tree_is s e) t);
         }
 
-    pub stops : (s : Schema) (fault : FaultD) (a b : ℕ) → s ≡ f.here.body
-        → Refuses r d most (definition_word (is_under_defs d n) ∷ n ∷ []) a b (tree r d (suc most) (Some n) (definition_word (is_under_defs d n) ∷ n ∷ []) s) fault
-        → RefusesAll r d most a b (definition_trees r d most d.definitions) fault
-    stops s fault a b e k = by_start (passed_refuses r d most (definition_word (is_under_defs d n) ∷ n ∷ []) fault a b (definition_trees r d most d.definitions) (definition_tree r d most f.here) (definition_trees r d most f.behind) old new f.told
-        (subst (λ (ts : List Node). Refuses r d most (definition_word (is_under_defs d n) ∷ n ∷ []) a b ts fault) (tree_is s e) k))
-      where
-        by_start : Refuses r d most (definition_word (is_under_defs d n) ∷ n ∷ []) a b (definition_trees r d most d.definitions) fault → RefusesAll r d most a b (definition_trees r d most d.definitions) fault
-        by_start (by_none k) = by_want k
-        by_start (by_fault t) = by_node (definition_word (is_under_defs d n) ∷ n ∷ []) (inr (f.here, f.stands, place_is)) t
+    pub stops : (s : Schema) (fault : FaultD) (a b : ℕ) → s ≡ f.here.body → Refuses r d most m a b (tree_at r d most m (named_spot d n) s) fault → Refuses r d most m a b all_trees fault
+    stops s fault a b e k =
+        passed_refuses r d most m fault a b all_trees (tree_of f.here) (definition_trees r d most m f.behind) old new f.told
+        (subst (λ (ts : List Node). Refuses r d most m a b ts fault) (tree_is s e) k)
 
-  -- ---- the root behind the definitions
+    pub begins_here : (s : Schema) → s ≡ f.here.body → Begins old.merges (merges_in all_trees) → Begins new.merges (merges_in (tree_at r d most m (named_spot d n) s))
+    begins_here s e b =
+        subst (λ (ts : List Node). Begins new.merges (merges_in ts)) (sym (tree_is s e))
+        (passed_begins r d most m all_trees (tree_of f.here) (definition_trees r d most m f.behind) old new f.told b)
+
+  -- ---- none is left
 
   pub all_done : (names : List (List ℕ)) (targets : List TargetEntry) (old new : KeptD) → names ≡ [] → Left names targets old new → targets ≡ targets_from d.definitions
   all_done names targets old new e l = none_left l.rest (sym e ∙ l.names_are) l.targets_are
@@ -113,9 +124,9 @@ module _ (r : Relations) (d : Document) (most : ℕ) where
       none_left [] e t = sym (append-nil targets) ∙ t
       none_left (x ∷ xs) e t = absurd (cc)
 
-  pub all_told : (names : List (List ℕ)) (targets : List TargetEntry) (old new : KeptD) → names ≡ [] → Left names targets old new → IsTold r d most (definition_trees r d most d.definitions) old new
+  pub all_told : (names : List (List ℕ)) (targets : List TargetEntry) (old new : KeptD) → names ≡ [] → Left names targets old new → IsTold r d most m all_trees old new
   all_told names targets old new e l = none_left l.rest (sym e ∙ l.names_are) l.told
     where
-      none_left : (rest : List Definition) → [] ≡ map (λ e. e.name) rest → Passed r d most (definition_trees r d most d.definitions) (definition_trees r d most rest) old new → IsTold r d most (definition_trees r d most d.definitions) old new
-      none_left [] e p = passed_all r d most (definition_trees r d most d.definitions) old new p
+      none_left : (rest : List Definition) → [] ≡ map (λ e. e.name) rest → Passed r d most m all_trees (definition_trees r d most m rest) old new → IsTold r d most m all_trees old new
+      none_left [] e p = passed_all r d most m all_trees old new p
       none_left (x ∷ xs) e p = absurd (cc)

@@ -1,12 +1,11 @@
 -- How a fault is told.
-use Rattle.std.proofs.Common.{◌≡◌, ℕ, List, ◌∷◌, refl, subst}
+use Rattle.std.specs.Prelude.{Result, Ok, Err, IfErr, IsErrAnd}
+use Rattle.std.proofs.Common.{◌≡◌, ℕ, ◌≤◌, inl, inr, List, ◌∷◌, refl, sym, subst, arith}
 use Rattle.run_io.specs.Bytes.{Rises}
 use Rattle.schema_defs.specs.Location.{Location}
 use Rattle.schema_defs.specs.Schema.{Schema}
 use Rattle.convert_defs.specs.Row.{Finding, Cause}
-use Rattle.schema_tree.specs.Fault.{FaultD, memory, depth, texts}
-use Rattle.convert_trees.specs.Places as places
-use Rattle.convert_trees.specs.Places.{IsWalkTo, TellsDepth}
+use Rattle.schema_tree.specs.Fault.{FaultD, memory, texts}
 use Rattle.convert_trees.specs.Told as told
 use Rattle.convert_trees.specs.Told.{NoAnswer, RefusesBy, told_cause}
 
@@ -26,12 +25,17 @@ module _ (l : Location) (s : Schema) (fd : Finding) (old new : ℕ) where
   pub told_by : (c : Cause) (more : List Cause) (f : FaultD) → f ≡ told_cause l s fd c → RefusesBy l s fd old new (c ∷ more) f
   told_by c more f e = told.by_cause c more refl e
 
-module _ (start : Location) where
-  pub want_deep : (n : ℕ) (l : Location) (f : FaultD) → f ≡ memory → TellsDepth start n l f
-  want_deep n l f e = places.no_memory e
+-- the exit of a `?`
+pub if_err : {T E : Type 0} → (r : Result T E) (f : E) (P : E → Type 0) → IsErrAnd r (λ e. e ≡ f) → P f → IfErr r P
+if_err (Ok x) f P e h = absurd e
+if_err (Err g) f P e h = subst P (sym e) h
 
-  pub walk_told : (n : ℕ) (l : Location) (f : FaultD) (walk : List Location) → IsWalkTo start n walk l → f ≡ depth walk → TellsDepth start n l f
-  walk_told n l f walk w e = places.walked walk w e
+-- ---- from an earlier count
 
-  pub depth_moved : (n n' : ℕ) (l l' : Location) (f : FaultD) → n' ≡ n → l' ≡ l → TellsDepth start n' l' f → TellsDepth start n l f
-  depth_moved n n' l l' f e g t = subst (λ (n : ℕ). TellsDepth start n l f) e (subst (λ (l : Location). TellsDepth start n' l f) g t)
+rises_from : (a b c : ℕ) → a ≤ b → Rises b c → Rises a c
+rises_from a b c h (inl k) = inl (omega (arith, h, k))
+rises_from a b c h (inr k) = inr k
+
+pub none_from : (a b c : ℕ) (f : FaultD) → a ≤ b → NoAnswer b c f → NoAnswer a c f
+none_from a b c f h (told.no_memory e) = told.no_memory e
+none_from a b c f h (told.failed m e k) = told.failed m e (rises_from a b c h k)

@@ -1,128 +1,183 @@
--- One schema, by what was found of it.
-use Rattle.std.proofs.Common.{◌≡◌, ℕ, zero, suc, ◌-◌, ◌≤◌, ◌+◌, inl, inr, List, [], ◌∷◌, ◌++◌, map, refl, sym, ap, subst, ◌∙◌, append_assoc, arith}
-use Rattle.std.specs.Prelude.{Result, Ok, Err, IfErr, IsErrAnd}
-use Rattle.run_io.specs.Bytes.{Rises}
+-- One schema whose row doesn't merge, by what was found of it.
+use Rattle.std.proofs.Common.{◌≡◌, ℕ, zero, suc, ◌-◌, ◌⊎◌, List, [], ◌∷◌, ◌++◌, Bool, true, false, Option, None, map, refl, sym, ap, subst, ◌∙◌, append_assoc, append-nil, arith}
 use Rattle.schema_defs.specs.Location.{Location}
 use Rattle.schema_defs.specs.Texts.{Relations}
 use Rattle.schema_defs.specs.Schema.{Schema, Document}
 use Rattle.entry_defs.specs.Entry.{Entry}
-use Rattle.convert_defs.specs.Row.{Row, Part, Finding, row_parts}
-use Rattle.convert_defs.specs.Table.{finding_of}
-use Rattle.convert_defs.specs.Convert.{Handed, Node, cut_branches, placed, named_by, most_made, tree, inner_tree}
+use Rattle.convert_defs.specs.Row.{Part, Finding, row_parts, Cause}
+use Rattle.convert_defs.specs.Table.{finding_of, row_of}
+use Rattle.convert_defs.specs.Convert.{named_by}
 use Rattle.convert_defs.specs.Faults.{finding_faults}
-use Rattle.schema_tree.specs.Fault.{FaultD, memory}
+use Rattle.merge_defs.specs.Outcome.{Outcome}
+use Rattle.merge_walks.specs.Carried.{has_more_steps}
+use Rattle.convert_walks.specs.Spot.{Spot, part_spot, part_schema}
+use Rattle.convert_walks.specs.Tree.{Node, Trees, cut, too_many_steps, converted, if_merged, entry_at, row_entry, tree_at, below, merge_of, deep_branches, parts_trees}
+use Rattle.convert_walks.specs.Told.{Note, Reason, by_row, placed_note, notes_in}
+use Rattle.schema_tree.specs.Fault.{FaultD, memory, depth}
 use Rattle.row_trees.specs.Build.{built}
-use Rattle.convert_trees.specs.Nodes.{entry_at, nodes_at, parts_nodes, converted}
-use Rattle.convert_trees.specs.Places.{TellsDepth}
-use Rattle.convert_trees.specs.Keeping.{KeptD}
+use Rattle.row_trees.proofs.Rows.{rows_are_built}
+use Rattle.row_merges.specs.Merges.{MergeD, merges_in}
+use Rattle.convert_trees.specs.Keeping.{KeptD, with_unread}
+use Rattle.stated_walks.specs.Stated.{part_places, stated_parts}
+use Rattle.convert_trees.specs.Unread.{unread_of, unread_listed}
 use Rattle.convert_trees.specs.Told as told
-use Rattle.convert_trees.specs.Told.{NoAnswer, RefusesBy, IsTold, IsToldOf, Tells, TellsStated, Refuses, by_none, by_fault}
-use Rattle.convert_trees.proofs.Telling.{own_refuses, stated_refuses, branch_refuses, parts_refuse, told_whole, refuses_deep}
-use Rattle.stated_laws.specs.Stated.{stated_steps}
-use Rattle.convert_trees.proofs.Entering.{built_here, entered_nodes, passed_nodes}
+use Rattle.convert_trees.specs.Told.{AreFine, IsTold, IsToldOf, RefusesBy, unanswered, by_cause, TellsStated, out_of_memory, by_default, Refuses, by_none, by_fault, Begins}
+use Rattle.convert_trees.proofs.Telling.{none_fine, both_fine, refuses_first, refuses_second, tells_head, cut_refuses, told_by_levels, refuses_by_levels}
 
--- the exit of a `?`
-pub if_err : {T E : Type 0} → (r : Result T E) (f : E) (P : E → Type 0) → IsErrAnd r (λ e. e ≡ f) → P f → IfErr r P
-if_err (Ok x) f P e h = absurd e
-if_err (Err g) f P e h = subst P (sym e) h
+-- a schema that is converted, and what is below it
+module _ (r : Relations) (d : Document) (most n : ℕ) (o : Spot) (s : Schema) where
+  abbrev pub node_with : Option (Outcome Schema) → Node
+  node_with m = record { spot = o; schema = s; entry = entry_at r d most (suc n) o s; state = converted m }
 
-rises_from : (a b c : ℕ) → a ≤ b → Rises b c → Rises a c
-rises_from a b c h (inl k) = inl (omega (arith, h, k))
-rises_from a b c h (inr k) = inr k
+  abbrev pub trees : Trees
+  trees = λ o s. tree_at r d most n o s
 
-pub none_from : (a b c : ℕ) (f : FaultD) → a ≤ b → NoAnswer b c f → NoAnswer a c f
-none_from a b c f h (told.no_memory e) = told.no_memory e
-none_from a b c f h (told.failed m e k) = told.failed m e (rises_from a b c h k)
+  abbrev tree_by : Bool → List Node
+  tree_by b = elim b [
+    | true ↦ cut too_many_steps o s ∷ []
+    | false ↦ node_with (merge_of r d most n o s (if_merged (row_of r d s))) ∷ below r d most n trees o s (finding_of r d s).branches (row_of r d s) (if_merged (row_of r d s))
+  ]
 
-module _ (r : Relations) (d : Document) (most : ℕ) (start : Location) (ts : List Node) (f : FaultD) where
-  pub want_refuses : (a b : ℕ) → f ≡ memory → Refuses r d most start a b ts f
-  want_refuses a b e = by_none (told.no_memory e)
+  pub shallow : has_more_steps most o.walk ≡ false
+      → tree_at r d most (suc n) o s ≡ node_with (merge_of r d most n o s (if_merged (row_of r d s))) ∷ below r d most n trees o s (finding_of r d s).branches (row_of r d s) (if_merged (row_of r d s))
+  shallow e = ap tree_by e
 
-  pub refuses_from : (a b c : ℕ) → a ≤ b → Refuses r d most start b c ts f → Refuses r d most start a c ts f
-  refuses_from a b c h (by_none k) = by_none (none_from a b c f h k)
-  refuses_from a b c h (by_fault t) = by_fault t
+  pub deep : has_more_steps most o.walk ≡ true → tree_at r d most (suc n) o s ≡ cut too_many_steps o s ∷ []
+  deep e = ap tree_by e
 
-one_more : (n : ℕ) → (n ≡ 0 → ⊥) → suc (n - 1) ≡ n
+  by_parts : (m : Option (List Part)) → m ≡ None
+      → node_with (merge_of r d most n o s m) ∷ below r d most n trees o s (finding_of r d s).branches (row_of r d s) m
+      ≡ node_with None ∷ (deep_branches r d most o (finding_of r d s).branches ++ parts_trees r d most trees o (finding_of r d s).branches (row_parts (row_of r d s)))
+  by_parts m e = ap (λ m. node_with (merge_of r d most n o s m) ∷ below r d most n trees o s (finding_of r d s).branches (row_of r d s) m) e
+
+  module _ (fd : Finding) (e : fd ≡ finding_of r d s) (w : has_more_steps most o.walk ≡ false) (p : if_merged fd.row ≡ None) where
+    abbrev pub cut_below : List Node
+    cut_below = deep_branches r d most o fd.branches
+
+    abbrev pub parts_below : List Node
+    parts_below = parts_trees r d most trees o fd.branches (row_parts fd.row)
+
+    merges_none : if_merged (row_of r d s) ≡ None
+    merges_none = ap (λ (fd : Finding). if_merged fd.row) (sym e) ∙ p
+
+    pub plain_is : tree_at r d most (suc n) o s ≡ node_with None ∷ (cut_below ++ parts_below)
+    plain_is =
+        shallow w ∙ by_parts (if_merged (row_of r d s)) merges_none
+        ∙ ap (λ (fd : Finding). node_with None ∷ (deep_branches r d most o fd.branches ++ parts_trees r d most trees o fd.branches (row_parts fd.row))) (sym e)
+
+    pub plain_entry : (x : Entry) → x ≡ built (named_by o.handed s) fd.row (map (λ p. entry_at r d most n (part_spot o fd.branches p) (part_schema p)) (row_parts fd.row)) → x ≡ entry_at r d most (suc n) o s
+    plain_entry x h =
+        h ∙ rows_are_built (λ p. entry_at r d most n (part_spot o fd.branches p) (part_schema p)) (named_by o.handed s) fd.row
+        ∙ ap (λ m. row_entry r d most n (λ o s. entry_at r d most n o s) o s fd.branches fd.row m) (sym p)
+        ∙ ap (λ (fd : Finding). row_entry r d most n (λ o s. entry_at r d most n o s) o s fd.branches fd.row (if_merged fd.row)) e
+
+    pub plain_begins : (left : KeptD) (l : KeptD) → cut_below ≡ [] → l.merges ≡ left.merges → Begins left.merges (merges_in (tree_at r d most (suc n) o s)) → Begins l.merges (merges_in parts_below)
+    plain_begins left l b m h =
+        let of_whole = subst (λ (ts : List Node). Begins left.merges (merges_in ts)) plain_is h in
+        subst (λ (ms : List MergeD). Begins ms (merges_in parts_below)) (sym m) (subst (λ (ts : List Node). Begins left.merges (merges_in (ts ++ parts_below))) b of_whole)
+
+    abbrev by_rows : List Cause → List (Location × Reason)
+    by_rows cs = map (λ c. (o.path, by_row c)) cs
+
+    -- ---- a refusal, of the schema itself, of its default, of its branches or of its parts
+
+    module _ (f : FaultD) (old new : ℕ) where
+      abbrev Refused : Type 0
+      Refused = Refuses r d most n old new (tree_at r d most (suc n) o s) f
+
+      whole_refuses : Refuses r d most n old new (node_with None ∷ (cut_below ++ parts_below)) f → Refused
+      whole_refuses k = subst (λ (ts : List Node). Refuses r d most n old new ts f) (sym plain_is) k
+
+      own_by : RefusesBy o.path s (finding_of r d s) old new (finding_faults r d most (finding_of r d s)) f → Refuses r d most n old new (node_with None ∷ (cut_below ++ parts_below)) f
+      own_by (unanswered k) = by_none k
+      own_by (by_cause c cs g k) =
+          by_fault (tells_head r d most n f (node_with None) (cut_below ++ parts_below)
+          (told.of_reason o.path (by_row c) (by_rows cs) (ap by_rows g) k))
+
+      pub own_here : RefusesBy o.path s fd old new (finding_faults r d most fd) f → Refused
+      own_here k = whole_refuses (own_by (subst (λ (fd : Finding). RefusesBy o.path s fd old new (finding_faults r d most fd) f) e k))
+
+      no_faults : finding_faults r d most fd ≡ [] → by_rows (finding_faults r d most (finding_of r d s)) ≡ []
+      no_faults g = ap (λ (fd : Finding). by_rows (finding_faults r d most fd)) (sym e) ∙ ap by_rows g
+
+      stated_by_first : finding_faults r d most fd ≡ [] → TellsStated (part_places o (finding_of r d s).branches (stated_parts (row_of r d s))) f
+          → Refuses r d most n old new (node_with None ∷ (cut_below ++ parts_below)) f
+      stated_by_first g (out_of_memory k) = by_none (told.no_memory k)
+      stated_by_first g (by_default l more h k) = by_fault (tells_head r d most n f (node_with None) (cut_below ++ parts_below) (told.of_default l more (no_faults g) h k))
+
+      pub stated_here : finding_faults r d most fd ≡ [] → TellsStated (part_places o fd.branches (stated_parts fd.row)) f → Refused
+      stated_here g k = whole_refuses (stated_by_first g (subst (λ (fd : Finding). TellsStated (part_places o fd.branches (stated_parts fd.row)) f) e k))
+
+    own_fine : finding_faults r d most fd ≡ [] → stated_parts fd.row ≡ [] → AreFine r d most n (node_with None ∷ [])
+    own_fine g u = record {
+      faultless = ap (λ (fd : Finding). by_rows (finding_faults r d most fd) ++ []) (sym e) ∙ ap (λ cs. by_rows cs ++ []) g;
+      unstated = ap (λ (fd : Finding). part_places o fd.branches (stated_parts fd.row) ++ []) (sym e) ∙ ap (λ ps. part_places o fd.branches ps ++ []) u;
+    }
+
+    module _ (g : finding_faults r d most fd ≡ []) (u : stated_parts fd.row ≡ []) where
+      pub branches_here : (f : FaultD) (old new : ℕ) → Refuses r d most n old new cut_below f → Refuses r d most n old new (tree_at r d most (suc n) o s) f
+      branches_here f old new k =
+          whole_refuses f old new (refuses_second r d most n f old new (node_with None ∷ []) (cut_below ++ parts_below) (own_fine g u)
+          (refuses_first r d most n f old new cut_below parts_below k))
+
+      module _ (b : cut_below ≡ []) where
+        cut_fine : AreFine r d most n cut_below
+        cut_fine = subst (λ (ts : List Node). AreFine r d most n ts) (sym b) (none_fine r d most n)
+
+        pub parts_here : (f : FaultD) (old new : ℕ) → Refuses r d most n old new parts_below f → Refuses r d most n old new (tree_at r d most (suc n) o s) f
+        parts_here f old new k =
+            whole_refuses f old new (refuses_second r d most n f old new (node_with None ∷ []) (cut_below ++ parts_below) (own_fine g u)
+            (refuses_second r d most n f old new cut_below parts_below cut_fine k))
+
+        -- ---- told
+
+        abbrev own_notes : Finding → List Note
+        own_notes fd = map (placed_note o fd.branches) fd.notes
+
+        told_parts : (j k l : KeptD) (x : Entry) → k.notes ≡ j.notes ++ own_notes fd → k.values ≡ j.values → k.merges ≡ j.merges → x ≡ entry_at r d most (suc n) o s
+            → IsToldOf r d most n o.path fd.row x parts_below k l → IsTold r d most n (node_with None ∷ ([] ++ parts_below)) j l
+        told_parts j k l x a v m h t = record {
+          fine = both_fine r d most n (node_with None ∷ []) parts_below (own_fine g u) t.fine;
+          notes = t.notes ∙ ap (λ ns. ns ++ notes_in r d most n parts_below) a ∙ append_assoc j.notes (own_notes fd) (notes_in r d most n parts_below)
+              ∙ ap (λ (fd : Finding). j.notes ++ (own_notes fd ++ notes_in r d most n parts_below)) e ∙ noted;
+          values = t.values ∙ ap (λ v. with_unread (unread_of r v.known o.path fd.row x ++ unread_listed r v.known d parts_below) v) v
+              ∙ (λ i. with_unread (unread_of r j.values.known o.path (e i).row (h i) ++ unread_listed r j.values.known d parts_below) j.values);
+          merges = λ rest q. t.merges rest (m ∙ q);
+        }
+          where
+            noted : j.notes ++ (own_notes (finding_of r d s) ++ notes_in r d most n parts_below) ≡ j.notes ++ notes_in r d most n (node_with None ∷ parts_below)
+            noted = ap (λ ns. j.notes ++ (ns ++ notes_in r d most n parts_below)) (sym (append-nil (own_notes (finding_of r d s))))
+
+        pub told_here : (j k l : KeptD) (x : Entry) → k.notes ≡ j.notes ++ own_notes fd → k.values ≡ j.values → k.merges ≡ j.merges → x ≡ entry_at r d most (suc n) o s
+            → IsToldOf r d most n o.path fd.row x parts_below k l → IsTold r d most n (tree_at r d most (suc n) o s) j l
+        told_here j k l x a v m h t =
+            subst (λ (ts : List Node). IsTold r d most n ts j l) (sym plain_is)
+            (subst (λ (ts : List Node). IsTold r d most n (node_with None ∷ (ts ++ parts_below)) j l) (sym b) (told_parts j k l x a v m h t))
+
+-- ---- by so many levels
+
+pub one_more : (n : ℕ) → (n ≡ 0 → ⊥) → suc (n - 1) ≡ n
 one_more zero h = absurd (h refl)
 one_more (suc n) h = let k : suc n - 1 ≡ n = omega arith in ap suc k
 
-module _ (r : Relations) (d : Document) (most : ℕ) (n made : ℕ) (h : Handed) (l : Location) (s : Schema) (fd : Finding) where
-  pub own_here : (start : Location) (f : FaultD) (old new : ℕ) → (made ≡ 0 → ⊥) → fd ≡ finding_of r d s
-      → RefusesBy l s fd old new (finding_faults r d most fd) f → Refuses r d most start old new (nodes_at r d n made h l s) f
-  own_here start f old new m e k =
-      subst (λ (i : ℕ). Refuses r d most start old new (nodes_at r d n i h l s) f) (one_more made m)
-      (own_refuses r d most n (made - 1) h l s start f old new (subst (λ (fd : Finding). RefusesBy l s fd old new (finding_faults r d most fd) f) e k))
+module _ (r : Relations) (d : Document) (most n : ℕ) (o : Spot) (s : Schema) (some : n ≡ 0 → ⊥) where
+  pub entry_on : (x : Entry) → x ≡ entry_at r d most (suc (n - 1)) o s → x ≡ entry_at r d most n o s
+  entry_on x e = e ∙ ap (λ n. entry_at r d most n o s) (one_more n some)
 
-  pub stated_here : (start : Location) (f : FaultD) (old new : ℕ) → (made ≡ 0 → ⊥) → fd ≡ finding_of r d s → finding_faults r d most fd ≡ []
-      → TellsStated l (stated_steps fd.row) f → Refuses r d most start old new (nodes_at r d n made h l s) f
-  stated_here start f old new m e g k =
-      subst (λ (i : ℕ). Refuses r d most start old new (nodes_at r d n i h l s) f) (one_more made m)
-      (stated_refuses r d most n (made - 1) h l s start f old new (ap (finding_faults r d most) (sym e) ∙ g) (subst (λ (fd : Finding). TellsStated l (stated_steps fd.row) f) e k))
+  pub told_on : (j k : KeptD) → IsTold r d most (n - 1) (tree_at r d most (suc (n - 1)) o s) j k → IsTold r d most n (tree_at r d most n o s) j k
+  told_on j k t =
+      told_by_levels r d most (n - 1) n (tree_at r d most n o s) j k
+      (subst (λ (m : ℕ). IsTold r d most (n - 1) (tree_at r d most m o s) j k) (one_more n some) t)
 
-  pub branches_here : (start : Location) (f : FaultD) (old new : ℕ) → (made ≡ 0 → ⊥) → fd ≡ finding_of r d s → finding_faults r d most fd ≡ [] → stated_steps fd.row ≡ []
-      → Refuses r d most start old new (cut_branches n l fd.branches) f → Refuses r d most start old new (nodes_at r d n made h l s) f
-  branches_here start f old new m e g u k =
-      subst (λ (i : ℕ). Refuses r d most start old new (nodes_at r d n i h l s) f) (one_more made m)
-      (branch_refuses r d most n (made - 1) h l s start f old new (ap (finding_faults r d most) (sym e) ∙ g) (ap (λ (fd : Finding). stated_steps fd.row) (sym e) ∙ u)
-      (subst (λ (fd : Finding). Refuses r d most start old new (cut_branches n l fd.branches) f) e k))
+  pub refuses_on : (f : FaultD) (a b : ℕ) → Refuses r d most (n - 1) a b (tree_at r d most (suc (n - 1)) o s) f → Refuses r d most n a b (tree_at r d most n o s) f
+  refuses_on f a b k =
+      refuses_by_levels r d most (n - 1) n f a b (tree_at r d most n o s)
+      (subst (λ (m : ℕ). Refuses r d most (n - 1) a b (tree_at r d most m o s) f) (one_more n some) k)
 
-  pub parts_here : (start : Location) (f : FaultD) (r' : Relations) (first old new : ℕ) (ps : List Part) → (made ≡ 0 → ⊥) → fd ≡ finding_of r d s → finding_faults r d most fd ≡ [] → stated_steps fd.row ≡ []
-      → cut_branches n l fd.branches ≡ [] → ps ≡ row_parts fd.row → r' ≡ r → first ≤ old
-      → Refuses r' d most start old new (parts_nodes r' d n (made - 1) h l ps) f → Refuses r d most start first new (nodes_at r d n made h l s) f
-  parts_here start f r' first old new ps m e g u b p q w k =
-      refuses_from r d most start (nodes_at r d n made h l s) f first old new w
-      (subst (λ (i : ℕ). Refuses r d most start old new (nodes_at r d n i h l s) f) (one_more made m)
-      (parts_refuse r d most n (made - 1) h l s start f old new (ap (finding_faults r d most) (sym e) ∙ g) (ap (λ (fd : Finding). stated_steps fd.row) (sym e) ∙ u) (ap (λ (fd : Finding). cut_branches n l fd.branches) (sym e) ∙ b)
-      (subst (λ (ps : List Part). Refuses r d most start old new (parts_nodes r d n (made - 1) h l ps) f) (p ∙ ap (λ (fd : Finding). row_parts fd.row) e)
-      (subst (λ (r : Relations). Refuses r d most start old new (parts_nodes r d n (made - 1) h l ps) f) q k))))
+  pub begins_on : (left : List MergeD) → Begins left (merges_in (tree_at r d most n o s)) → Begins left (merges_in (tree_at r d most (suc (n - 1)) o s))
+  begins_on left b = subst (λ (m : ℕ). Begins left (merges_in (tree_at r d most m o s))) (sym (one_more n some)) b
 
-  pub told_here : (r' : Relations) (j k o : KeptD) (w : Row) (e : Entry) → (made ≡ 0 → ⊥) → fd ≡ finding_of r d s → finding_faults r d most fd ≡ [] → stated_steps fd.row ≡ []
-      → cut_branches n l fd.branches ≡ [] → k.notes ≡ j.notes ++ placed l fd.notes → k.values ≡ j.values → w ≡ fd.row → r' ≡ r → e ≡ entry_at r d n made h s
-      → IsToldOf r' d most l w e (parts_nodes r' d n (made - 1) h l (row_parts w)) k o → IsTold r d most (nodes_at r d n made h l s) j o
-  told_here r' j k o w e m g f v b a u p q is t =
-      let at : e ≡ entry_at r d n (suc (made - 1)) h s = is ∙ ap (λ i. entry_at r d n i h s) (sym (one_more made m)) in
-      subst (λ (i : ℕ). IsTold r d most (nodes_at r d n i h l s) j o) (one_more made m)
-      (told_whole r d most n (made - 1) h l s j k o (ap (finding_faults r d most) (sym g) ∙ f) (ap (λ (fd : Finding). stated_steps fd.row) (sym g) ∙ v) (ap (λ (fd : Finding). cut_branches n l fd.branches) (sym g) ∙ b)
-      (a ∙ ap (λ (fd : Finding). j.notes ++ placed l fd.notes) g) u
-      (subst (λ (e : Entry). IsToldOf r d most l (finding_of r d s).row e (parts_nodes r d n (made - 1) h l (row_parts (finding_of r d s).row)) k o) at
-      (subst (λ (w : Row). IsToldOf r d most l w e (parts_nodes r d n (made - 1) h l (row_parts w)) k o) (p ∙ ap (λ (fd : Finding). fd.row) g)
-      (subst (λ (r : Relations). IsToldOf r d most l w e (parts_nodes r d n (made - 1) h l (row_parts w)) k o) q t))))
-
-  pub entry_here : (r' : Relations) (e : Entry) (es : List Entry) (ps : List Part) → (made ≡ 0 → ⊥) → fd ≡ finding_of r d s → ps ≡ row_parts fd.row → r' ≡ r
-      → es ≡ map (converted r' d n (made - 1) h) ps → e ≡ built (named_by h s) fd.row es → e ≡ entry_at r d n made h s
-  entry_here r' e es ps m g p q a b =
-      built_here r d h s n made e es (made - 1) (sym (one_more made m))
-      (a ∙ ap (λ (r : Relations). map (converted r d n (made - 1) h) ps) q ∙ ap (map (converted r d n (made - 1) h)) (p ∙ ap (λ (fd : Finding). row_parts fd.row) g))
-      (b ∙ ap (λ (fd : Finding). built (named_by h s) fd.row es) g)
-
--- ---- one step on
-
-module _ (r : Relations) (d : Document) (most n : ℕ) (h : Handed) (l : Location) (s : Schema) where
-  pub deep_here : (start : Location) (f : FaultD) (old new count : ℕ) → n ≡ 0 → count ≡ most + 1 → TellsDepth start count l f → Refuses r d most start old new (tree r d n h l s) f
-  deep_here start f old new count e g t =
-      subst (λ (n : ℕ). Refuses r d most start old new (tree r d n h l s) f) (sym e) (refuses_deep r d most start f old new l s count g t)
-
-  pub on_refuses : (start : Location) (f : FaultD) (old new : ℕ) → (n ≡ 0 → ⊥) → Refuses r d most start old new (nodes_at r d (n - 1) most_made h l s) f → Refuses r d most start old new (tree r d n h l s) f
-  on_refuses start f old new m k = subst (λ (ts : List Node). Refuses r d most start old new ts f) (sym (entered_nodes r d h s n l m)) k
-
-  pub on_told : (j k : KeptD) → (n ≡ 0 → ⊥) → IsTold r d most (nodes_at r d (n - 1) most_made h l s) j k → IsTold r d most (tree r d n h l s) j k
-  on_told j k m t = subst (λ (ts : List Node). IsTold r d most ts j k) (sym (entered_nodes r d h s n l m)) t
-
-  pub inner_refuses : (start : Location) (f : FaultD) (old new : ℕ) → (n ≡ 0 → ⊥) → Refuses r d most start old new (tree r d (n - 1) h l s) f → Refuses r d most start old new (inner_tree r d n h l s) f
-  inner_refuses start f old new m k = subst (λ (ts : List Node). Refuses r d most start old new ts f) (sym (passed_nodes r d h s n l m)) k
-
-  pub inner_told : (j k : KeptD) → (n ≡ 0 → ⊥) → IsTold r d most (tree r d (n - 1) h l s) j k → IsTold r d most (inner_tree r d n h l s) j k
-  inner_told j k m t = subst (λ (ts : List Node). IsTold r d most ts j k) (sym (passed_nodes r d h s n l m)) t
-
--- at the place behind the steps
-module _ (r : Relations) (d : Document) (most : ℕ) (nodes : Location → List Node) (l l' : Location) where
-  pub told_moved : (j k : KeptD) → l' ≡ l → IsTold r d most (nodes l') j k → IsTold r d most (nodes l) j k
-  told_moved j k e t = subst (λ (l : Location). IsTold r d most (nodes l) j k) e t
-
-  pub refuses_moved : (start : Location) (f : FaultD) (old new : ℕ) → l' ≡ l → Refuses r d most start old new (nodes l') f → Refuses r d most start old new (nodes l) f
-  refuses_moved start f old new e k = subst (λ (l : Location). Refuses r d most start old new (nodes l) f) e k
-
--- one more part, with what it is converted to
-pub entries_turn : (convert : Part → Entry) (p : Part) (ps : List Part) (e : Entry) (old new whole : List Entry) → old ++ map convert (p ∷ ps) ≡ whole → new ≡ old ++ e ∷ [] → e ≡ convert p → new ++ map convert ps ≡ whole
-entries_turn convert p ps e old new whole h g k =
-    ap (λ es. es ++ map convert ps) g ∙ append_assoc old (e ∷ []) (map convert ps) ∙ ap (λ e. old ++ e ∷ map convert ps) k ∙ h
+  pub deep_on : (f : FaultD) (a b : ℕ) → has_more_steps most o.walk ≡ true → (f ≡ memory) ⊎ (f ≡ depth o.walk) → Refuses r d most n a b (tree_at r d most n o s) f
+  deep_on f a b e h =
+      subst (λ (m : ℕ). Refuses r d most n a b (tree_at r d most m o s) f) (one_more n some)
+      (subst (λ (ts : List Node). Refuses r d most n a b ts f) (sym (deep r d most (n - 1) o s e)) (cut_refuses r d most n f a b o s h))

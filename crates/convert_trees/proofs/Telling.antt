@@ -1,22 +1,21 @@
 -- What is told of nodes one after another.
-use Rattle.std.proofs.Common.{◌≡◌, ℕ, suc, ◌+◌, List, [], ◌∷◌, ◌++◌, Bool, false, Option, Some, None, is_some, refl, sym, ap, subst, ◌∙◌, append_assoc, append-nil}
-use Rattle.schema_defs.specs.Location.{Location}
+use Rattle.std.proofs.Common.{◌≡◌, ℕ, ◌≤◌, ◌⊎◌, inl, inr, List, [], ◌∷◌, ◌++◌, Bool, Option, Some, None, is_some, refl, sym, ap, subst, ◌∙◌, append_assoc, append-nil}
 use Rattle.schema_defs.specs.Texts.{Relations}
 use Rattle.schema_defs.specs.Schema.{Schema, Document}
-use Rattle.convert_defs.specs.Row.{row_parts}
-use Rattle.convert_defs.specs.Table.{finding_of, row_of, notes_at}
-use Rattle.convert_defs.specs.Convert.{Handed, Node, cut_node, cut_branches, placed, notes_in}
-use Rattle.convert_defs.specs.Faults.{finding_faults, faults_in, node_faults}
-use Rattle.convert_defs.specs.Faults as faults
-use Rattle.schema_tree.specs.Fault.{FaultD}
-use Rattle.convert_trees.specs.Nodes.{entry_at, nodes_at, parts_nodes}
-use Rattle.convert_trees.specs.Places.{IsWalkTo, TellsDepth, no_memory, walked}
-use Rattle.convert_trees.specs.Unread.{At, unread_of, unread_listed, first_kept, first_before_if}
+use Rattle.convert_defs.specs.Table.{row_of}
 use Rattle.entry_defs.specs.Table.{Table}
+use Rattle.schema_tree.specs.Fault.{FaultD, memory, depth}
+use Rattle.merge_walks.specs.Carried.{last_of}
+use Rattle.convert_walks.specs.Spot.{Spot}
+use Rattle.convert_walks.specs.Tree.{Node, cut, too_many_steps}
+use Rattle.convert_walks.specs.Told.{notes_in, state_notes, faults_in, state_faults, too_deep}
+use Rattle.row_merges.specs.Merges.{MergeD, merges_in, state_merges}
+use Rattle.convert_trees.specs.Unread.{At, unread_of, unread_listed, first_kept, first_before_if}
+use Rattle.stated_walks.specs.Stated.{stated_at, stated_in}
 use Rattle.convert_trees.specs.Keeping.{KeptD, ValuesD, with_unread}
 use Rattle.convert_trees.specs.Told as told
-use Rattle.convert_trees.specs.Told.{NoAnswer, RefusesBy, unanswered, by_cause, IsTold, IsToldOf, TellsOf, of_depth, of_cause, Tells, Refuses, by_none, by_fault, AreFine, TellsStated, out_of_memory, by_default, of_default}
-use Rattle.stated_laws.specs.Stated.{behind, stated_steps, stated_of, stated_in}
+use Rattle.convert_trees.specs.Told.{AreFine, IsTold, TellsOf, Tells, Refuses, by_none, by_fault, Begins, begins}
+use Rattle.convert_trees.proofs.Ends.{none_from}
 
 -- ---- the first is kept
 
@@ -41,56 +40,79 @@ with_none v = λ i. record { known = v.known; unread = first_none v.unread i }
 with_both : (v : ValuesD) (us bs : List At) → with_unread bs (with_unread us v) ≡ with_unread (us ++ bs) v
 with_both v us bs = λ i. record { known = v.known; unread = first_both v.unread us bs i }
 
-module _ (r : Relations) (d : Document) (most : ℕ) where
+-- ---- merges that are left
+
+merges_of_both : (xs bs : List Node) → merges_in (xs ++ bs) ≡ merges_in xs ++ merges_in bs
+merges_of_both [] bs = refl
+merges_of_both (a ∷ xs) bs =
+    ap (λ ms. state_merges a.spot a.schema a.state ++ ms) (merges_of_both xs bs)
+    ∙ sym (append_assoc (state_merges a.spot a.schema a.state) (merges_in xs) (merges_in bs))
+
+parted : (xs bs : List Node) (left rest : List MergeD) → left ≡ merges_in (xs ++ bs) ++ rest → left ≡ merges_in xs ++ (merges_in bs ++ rest)
+parted xs bs left rest e = e ∙ ap (λ ms. ms ++ rest) (merges_of_both xs bs) ∙ append_assoc (merges_in xs) (merges_in bs) rest
+
+-- with those of the first nodes, and behind those with the others'
+pub begins_first : (xs bs : List Node) (left : List MergeD) → Begins left (merges_in (xs ++ bs)) → Begins left (merges_in xs)
+begins_first xs bs left (begins rest e) = begins (merges_in bs ++ rest) (parted xs bs left rest e)
+
+module _ (r : Relations) (d : Document) (most n : ℕ) where
   -- ---- faults, notes and unread values of lists
 
-  faults_of_both : (xs bs : List Node) → faults_in r d most (xs ++ bs) ≡ faults_in r d most xs ++ faults_in r d most bs
+  faults_of_both : (xs bs : List Node) → faults_in r d most n (xs ++ bs) ≡ faults_in r d most n xs ++ faults_in r d most n bs
   faults_of_both [] bs = refl
   faults_of_both (a ∷ xs) bs =
-      ap (λ cs. faults.placed r d most a.place (node_faults r d most a) ++ cs) (faults_of_both xs bs)
-      ∙ sym (append_assoc (faults.placed r d most a.place (node_faults r d most a)) (faults_in r d most xs) (faults_in r d most bs))
+      ap (λ cs. state_faults r d most n a.spot a.schema a.state ++ cs) (faults_of_both xs bs)
+      ∙ sym (append_assoc (state_faults r d most n a.spot a.schema a.state) (faults_in r d most n xs) (faults_in r d most n bs))
 
-  notes_of_both : (xs bs : List Node) → notes_in r d (xs ++ bs) ≡ notes_in r d xs ++ notes_in r d bs
+  notes_of_both : (xs bs : List Node) → notes_in r d most n (xs ++ bs) ≡ notes_in r d most n xs ++ notes_in r d most n bs
   notes_of_both [] bs = refl
   notes_of_both (a ∷ xs) bs =
-      ap (λ ns. placed a.place (notes_at r d a.schema) ++ ns) (notes_of_both xs bs)
-      ∙ sym (append_assoc (placed a.place (notes_at r d a.schema)) (notes_in r d xs) (notes_in r d bs))
+      ap (λ ns. state_notes r d most n a.spot a.schema a.state ++ ns) (notes_of_both xs bs)
+      ∙ sym (append_assoc (state_notes r d most n a.spot a.schema a.state) (notes_in r d most n xs) (notes_in r d most n bs))
 
   unread_of_both : (k : Option Table) (xs bs : List Node) → unread_listed r k d (xs ++ bs) ≡ unread_listed r k d xs ++ unread_listed r k d bs
   unread_of_both k [] bs = refl
   unread_of_both k (a ∷ xs) bs =
-      ap (λ us. unread_of r k a.place (row_of r d a.schema) a.entry ++ us) (unread_of_both k xs bs)
-      ∙ sym (append_assoc (unread_of r k a.place (row_of r d a.schema) a.entry) (unread_listed r k d xs) (unread_listed r k d bs))
+      ap (λ us. unread_of r k a.spot.path (row_of r d a.schema) a.entry ++ us) (unread_of_both k xs bs)
+      ∙ sym (append_assoc (unread_of r k a.spot.path (row_of r d a.schema) a.entry) (unread_listed r k d xs) (unread_listed r k d bs))
 
   stated_of_both : (xs bs : List Node) → stated_in r d (xs ++ bs) ≡ stated_in r d xs ++ stated_in r d bs
   stated_of_both [] bs = refl
-  stated_of_both (a ∷ xs) bs = ap (λ ls. stated_of r d a ++ ls) (stated_of_both xs bs) ∙ sym (append_assoc (stated_of r d a) (stated_in r d xs) (stated_in r d bs))
+  stated_of_both (a ∷ xs) bs =
+      ap (λ ls. stated_at r d a.spot a.schema a.state ++ ls) (stated_of_both xs bs)
+      ∙ sym (append_assoc (stated_at r d a.spot a.schema a.state) (stated_in r d xs) (stated_in r d bs))
 
   -- ---- nothing to refuse
 
-  none_fine : AreFine r d most []
+  pub none_fine : AreFine r d most n []
   none_fine = record { faultless = refl; unstated = refl }
 
-  both_fine : (xs bs : List Node) → AreFine r d most xs → AreFine r d most bs → AreFine r d most (xs ++ bs)
+  pub both_fine : (xs bs : List Node) → AreFine r d most n xs → AreFine r d most n bs → AreFine r d most n (xs ++ bs)
   both_fine xs bs x y = record {
-    faultless = faults_of_both xs bs ∙ ap (λ cs. cs ++ faults_in r d most bs) x.faultless ∙ y.faultless;
+    faultless = faults_of_both xs bs ∙ ap (λ cs. cs ++ faults_in r d most n bs) x.faultless ∙ y.faultless;
     unstated = stated_of_both xs bs ∙ ap (λ ls. ls ++ stated_in r d bs) x.unstated ∙ y.unstated;
   }
 
   -- ---- told
 
-  pub told_none : (k : KeptD) → IsTold r d most [] k k
-  told_none k = record { fine = none_fine; notes = sym (append-nil k.notes); values = sym (with_none k.values) }
+  pub told_none : (k : KeptD) → IsTold r d most n [] k k
+  told_none k = record { fine = none_fine; notes = sym (append-nil k.notes); values = sym (with_none k.values); merges = λ rest e. e }
 
-  pub told_both : (xs bs : List Node) (k l m : KeptD) → IsTold r d most xs k l → IsTold r d most bs l m → IsTold r d most (xs ++ bs) k m
+  pub told_both : (xs bs : List Node) (k l m : KeptD) → IsTold r d most n xs k l → IsTold r d most n bs l m → IsTold r d most n (xs ++ bs) k m
   told_both xs bs k l m x y = record {
     fine = both_fine xs bs x.fine y.fine;
-    notes = y.notes ∙ ap (λ ns. ns ++ notes_in r d bs) x.notes ∙ append_assoc k.notes (notes_in r d xs) (notes_in r d bs) ∙ ap (λ ns. k.notes ++ ns) (sym (notes_of_both xs bs));
-    values = y.values ∙ ap (λ v. with_unread (unread_listed r v.known d bs) v) x.values ∙ with_both k.values (unread_listed r k.values.known d xs) (unread_listed r k.values.known d bs) ∙ ap (λ us. with_unread us k.values) (sym (unread_of_both k.values.known xs bs));
+    notes = y.notes ∙ ap (λ ns. ns ++ notes_in r d most n bs) x.notes ∙ append_assoc k.notes (notes_in r d most n xs) (notes_in r d most n bs)
+        ∙ ap (λ ns. k.notes ++ ns) (sym (notes_of_both xs bs));
+    values = y.values ∙ ap (λ v. with_unread (unread_listed r v.known d bs) v) x.values ∙ with_both k.values (unread_listed r k.values.known d xs) (unread_listed r k.values.known d bs)
+        ∙ ap (λ us. with_unread us k.values) (sym (unread_of_both k.values.known xs bs));
+    merges = λ rest e. y.merges rest (x.merges (merges_in bs ++ rest) (parted xs bs k.merges rest e));
   }
 
-  module _ (start : Location) (f : FaultD) where
-    tells_first : (xs bs : List Node) → Tells r d most start xs f → Tells r d most start (xs ++ bs) f
+  pub begins_second : (xs bs : List Node) (k l : KeptD) → IsTold r d most n xs k l → Begins k.merges (merges_in (xs ++ bs)) → Begins l.merges (merges_in bs)
+  begins_second xs bs k l t (begins rest e) = begins rest (t.merges (merges_in bs ++ rest) (parted xs bs k.merges rest e))
+
+  module _ (f : FaultD) where
+    tells_first : (xs bs : List Node) → Tells r d most n xs f → Tells r d most n (xs ++ bs) f
     tells_first xs bs t = record {
       before = t.before;
       at = t.at;
@@ -100,7 +122,7 @@ module _ (r : Relations) (d : Document) (most : ℕ) where
       told = t.told;
     }
 
-    tells_second : (xs bs : List Node) → AreFine r d most xs → Tells r d most start bs f → Tells r d most start (xs ++ bs) f
+    tells_second : (xs bs : List Node) → AreFine r d most n xs → Tells r d most n bs f → Tells r d most n (xs ++ bs) f
     tells_second xs bs e t = record {
       before = xs ++ t.before;
       at = t.at;
@@ -110,105 +132,87 @@ module _ (r : Relations) (d : Document) (most : ℕ) where
       told = t.told;
     }
 
+    -- the first node alone
+    pub tells_head : (t : Node) (ts : List Node) → TellsOf r d most n t f → Tells r d most n (t ∷ ts) f
+    tells_head t ts h = record { before = []; at = t; after = ts; split = refl; fine = none_fine; told = h }
+
+    pub want_refuses : (a b : ℕ) (ts : List Node) → f ≡ memory → Refuses r d most n a b ts f
+    want_refuses a b ts e = by_none (told.no_memory e)
+
+    pub refuses_from : (a b c : ℕ) (ts : List Node) → a ≤ b → Refuses r d most n b c ts f → Refuses r d most n a c ts f
+    refuses_from a b c ts h (by_none k) = by_none (none_from a b c f h k)
+    refuses_from a b c ts h (by_fault t) = by_fault t
+
+    -- a schema to which no step is left
+    pub cut_refuses : (a b : ℕ) (o : Spot) (s : Schema) → (f ≡ memory) ⊎ (f ≡ depth o.walk) → Refuses r d most n a b (cut too_many_steps o s ∷ []) f
+    cut_refuses a b o s (inl e) = by_none (told.no_memory e)
+    cut_refuses a b o s (inr e) = by_fault (tells_head (cut too_many_steps o s) [] (told.of_reason (last_of o.walk) (too_deep o.walk) [] refl e))
+
     module _ (old new : ℕ) where
-      pub refuses_first : (xs bs : List Node) → Refuses r d most start old new xs f → Refuses r d most start old new (xs ++ bs) f
+      pub refuses_first : (xs bs : List Node) → Refuses r d most n old new xs f → Refuses r d most n old new (xs ++ bs) f
       refuses_first xs bs (by_none h) = by_none h
       refuses_first xs bs (by_fault t) = by_fault (tells_first xs bs t)
 
-      pub refuses_second : (xs bs : List Node) → AreFine r d most xs → Refuses r d most start old new bs f → Refuses r d most start old new (xs ++ bs) f
+      pub refuses_second : (xs bs : List Node) → AreFine r d most n xs → Refuses r d most n old new bs f → Refuses r d most n old new (xs ++ bs) f
       refuses_second xs bs e (by_none h) = by_none h
       refuses_second xs bs e (by_fault t) = by_fault (tells_second xs bs e t)
-
-      -- a node alone that is too deep
-      pub refuses_deep : (l : Location) (s : Schema) (n : ℕ) → n ≡ most + 1 → TellsDepth start n l f → Refuses r d most start old new (cut_node l s ∷ []) f
-      refuses_deep l s n e (no_memory h) = by_none (told.no_memory h)
-      refuses_deep l s n e (walked w k h) =
-          by_fault (record {
-            before = [];
-            at = cut_node l s;
-            after = [];
-            split = refl;
-            fine = none_fine;
-            told = of_depth w refl (subst (λ (n : ℕ). IsWalkTo start n w l) e k) h;
-          })
 
   -- ---- a part of a list is passed
 
   pub record Passed (whole rest : List Node) (old new : KeptD) : Type 0 where
     pub done : List Node
     pub split : whole ≡ done ++ rest
-    pub told : IsTold r d most done old new
+    pub told : IsTold r d most n done old new
 
   pub passed_none : (whole : List Node) (k : KeptD) → Passed whole whole k k
   passed_none whole k = record { done = []; split = refl; told = told_none k }
 
-  pub passed_on : (whole xs bs : List Node) (k l m : KeptD) → Passed whole (xs ++ bs) k l → IsTold r d most xs l m → Passed whole bs k m
+  pub passed_on : (whole xs bs : List Node) (k l m : KeptD) → Passed whole (xs ++ bs) k l → IsTold r d most n xs l m → Passed whole bs k m
   passed_on whole xs bs k l m p t = record {
     done = p.done ++ xs;
     split = p.split ∙ sym (append_assoc p.done xs bs);
     told = told_both p.done xs k l m p.told t;
   }
 
-  pub passed_all : (whole : List Node) (k l : KeptD) → Passed whole [] k l → IsTold r d most whole k l
-  passed_all whole k l p = subst (λ (ts : List Node). IsTold r d most ts k l) (sym (p.split ∙ append-nil p.done)) p.told
+  pub passed_all : (whole : List Node) (k l : KeptD) → Passed whole [] k l → IsTold r d most n whole k l
+  passed_all whole k l p = subst (λ (ts : List Node). IsTold r d most n ts k l) (sym (p.split ∙ append-nil p.done)) p.told
 
-  pub passed_end : (whole rest : List Node) (k l : KeptD) → rest ≡ [] → Passed whole rest k l → IsTold r d most whole k l
+  pub passed_end : (whole rest : List Node) (k l : KeptD) → rest ≡ [] → Passed whole rest k l → IsTold r d most n whole k l
   passed_end whole rest k l e p = passed_all whole k l (subst (λ (ts : List Node). Passed whole ts k l) e p)
 
-  pub passed_refuses : (start : Location) (f : FaultD) (old new : ℕ) (whole xs bs : List Node) (k l : KeptD)
-      → Passed whole (xs ++ bs) k l → Refuses r d most start old new xs f → Refuses r d most start old new whole f
-  passed_refuses start f old new whole xs bs k l p h =
-      subst (λ (ts : List Node). Refuses r d most start old new ts f) (sym p.split)
-      (refuses_second start f old new p.done (xs ++ bs) p.told.fine (refuses_first start f old new xs bs h))
+  pub passed_refuses : (f : FaultD) (old new : ℕ) (whole xs bs : List Node) (k l : KeptD)
+      → Passed whole (xs ++ bs) k l → Refuses r d most n old new xs f → Refuses r d most n old new whole f
+  passed_refuses f old new whole xs bs k l p h =
+      subst (λ (ts : List Node). Refuses r d most n old new ts f) (sym p.split)
+      (refuses_second f old new p.done (xs ++ bs) p.told.fine (refuses_first f old new xs bs h))
 
-  -- ---- one schema: itself, branches without a step, and its parts
+  -- the merges that are left begin with those of what comes next
+  pub passed_begins : (whole xs bs : List Node) (k l : KeptD) → Passed whole (xs ++ bs) k l → Begins k.merges (merges_in whole) → Begins l.merges (merges_in xs)
+  passed_begins whole xs bs k l p b =
+      begins_first xs bs l.merges (begins_second p.done (xs ++ bs) k l p.told (subst (λ (ts : List Node). Begins k.merges (merges_in ts)) p.split b))
 
-  module _ (n m : ℕ) (h : Handed) (l : Location) (s : Schema) where
-    pub own_refuses : (start : Location) (f : FaultD) (old new : ℕ) → RefusesBy l s (finding_of r d s) old new (finding_faults r d most (finding_of r d s)) f
-        → Refuses r d most start old new (nodes_at r d n (suc m) h l s) f
-    own_refuses start f old new (unanswered k) = by_none k
-    own_refuses start f old new (by_cause c cs e k) =
-        by_fault (record { before = []; at = _; after = _; split = refl; fine = none_fine; told = of_cause c cs refl e k })
+-- ---- the number of levels is of no account
 
-    abbrev own_node : List Node
-    own_node = record { place = l; schema = s; entry = entry_at r d n (suc m) h s; is_deep = false } ∷ []
+module _ (r : Relations) (d : Document) (most m n : ℕ) where
+  same_faults : (ts : List Node) → faults_in r d most m ts ≡ faults_in r d most n ts
+  same_faults [] = refl
+  same_faults (t ∷ ts) = ap (λ fs. state_faults r d most n t.spot t.schema t.state ++ fs) (same_faults ts)
 
-    abbrev branch_nodes : List Node
-    branch_nodes = cut_branches n l (finding_of r d s).branches
+  same_notes : (ts : List Node) → notes_in r d most m ts ≡ notes_in r d most n ts
+  same_notes [] = refl
+  same_notes (t ∷ ts) = ap (λ ns. state_notes r d most n t.spot t.schema t.state ++ ns) (same_notes ts)
 
-    abbrev part_list : List Node
-    part_list = parts_nodes r d n m h l (row_parts (row_of r d s))
+  fine_by : (ts : List Node) → AreFine r d most m ts → AreFine r d most n ts
+  fine_by ts a = record { faultless = sym (same_faults ts) ∙ a.faultless; unstated = a.unstated }
 
-    -- its own default, where it has no fault itself
-    pub stated_refuses : (start : Location) (f : FaultD) (old new : ℕ) → finding_faults r d most (finding_of r d s) ≡ [] → TellsStated l (stated_steps (row_of r d s)) f
-        → Refuses r d most start old new (nodes_at r d n (suc m) h l s) f
-    stated_refuses start f old new e (out_of_memory k) = by_none (told.no_memory k)
-    stated_refuses start f old new e (by_default k more g w) =
-        by_fault (record { before = []; at = _; after = _; split = refl; fine = none_fine; told = of_default (l ++ k) (behind l more) refl e (ap (behind l) g) w })
+  pub told_by_levels : (ts : List Node) (j k : KeptD) → IsTold r d most m ts j k → IsTold r d most n ts j k
+  told_by_levels ts j k t = record { fine = fine_by ts t.fine; notes = t.notes ∙ ap (λ ns. j.notes ++ ns) (same_notes ts); values = t.values; merges = t.merges }
 
-    own_fine : finding_faults r d most (finding_of r d s) ≡ [] → stated_steps (row_of r d s) ≡ [] → AreFine r d most own_node
-    own_fine e g = record { faultless = ap (λ cs. faults.placed r d most l cs ++ []) e; unstated = ap (λ ks. behind l ks ++ []) g }
+  tells_of_by : (t : Node) (f : FaultD) → TellsOf r d most m t f → TellsOf r d most n t f
+  tells_of_by t f (told.of_reason l why more e h) = told.of_reason l why more e h
+  tells_of_by t f (told.of_default l more e g h) = told.of_default l more e g h
 
-    branches_fine : branch_nodes ≡ [] → AreFine r d most branch_nodes
-    branches_fine b = subst (AreFine r d most) (sym b) none_fine
-
-    pub branch_refuses : (start : Location) (f : FaultD) (old new : ℕ) → finding_faults r d most (finding_of r d s) ≡ [] → stated_steps (row_of r d s) ≡ []
-        → Refuses r d most start old new branch_nodes f → Refuses r d most start old new (nodes_at r d n (suc m) h l s) f
-    branch_refuses start f old new e g k =
-        refuses_second start f old new own_node (branch_nodes ++ part_list) (own_fine e g) (refuses_first start f old new branch_nodes part_list k)
-
-    pub parts_refuse : (start : Location) (f : FaultD) (old new : ℕ) → finding_faults r d most (finding_of r d s) ≡ [] → stated_steps (row_of r d s) ≡ [] → branch_nodes ≡ []
-        → Refuses r d most start old new part_list f → Refuses r d most start old new (nodes_at r d n (suc m) h l s) f
-    parts_refuse start f old new e g b k =
-        refuses_second start f old new own_node (branch_nodes ++ part_list) (own_fine e g)
-        (refuses_second start f old new branch_nodes part_list (branches_fine b) k)
-
-    pub told_whole : (j k o : KeptD) → finding_faults r d most (finding_of r d s) ≡ [] → stated_steps (row_of r d s) ≡ [] → branch_nodes ≡ [] → k.notes ≡ j.notes ++ placed l (notes_at r d s) → k.values ≡ j.values
-        → IsToldOf r d most l (row_of r d s) (entry_at r d n (suc m) h s) part_list k o → IsTold r d most (nodes_at r d n (suc m) h l s) j o
-    told_whole j k o e w b g u t = record {
-      fine = both_fine own_node (branch_nodes ++ part_list) (own_fine e w) (both_fine branch_nodes part_list (branches_fine b) t.fine);
-      notes = t.notes ∙ ap (λ ns. ns ++ notes_in r d part_list) g ∙ append_assoc j.notes (placed l (notes_at r d s)) (notes_in r d part_list)
-          ∙ ap (λ ts. j.notes ++ (placed l (notes_at r d s) ++ notes_in r d (ts ++ part_list))) (sym b);
-      values = t.values ∙ ap (λ v. with_unread (unread_of r v.known l (row_of r d s) (entry_at r d n (suc m) h s) ++ unread_listed r v.known d part_list) v) u
-          ∙ ap (λ ts. with_unread (unread_of r j.values.known l (row_of r d s) (entry_at r d n (suc m) h s) ++ unread_listed r j.values.known d (ts ++ part_list)) j.values) (sym b);
-    }
+  pub refuses_by_levels : (f : FaultD) (old new : ℕ) (ts : List Node) → Refuses r d most m old new ts f → Refuses r d most n old new ts f
+  refuses_by_levels f old new ts (by_none h) = by_none h
+  refuses_by_levels f old new ts (by_fault t) =
+      by_fault (record { before = t.before; at = t.at; after = t.after; split = t.split; fine = fine_by t.before t.fine; told = tells_of_by t.at f t.told })

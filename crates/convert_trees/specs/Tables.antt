@@ -1,14 +1,8 @@
 -- Parts of a table.
-use Rattle.std.specs.Prelude.{ℕ, List, [], ◌∷◌, Bool, true, false, is_some, codes}
-use Rattle.schema_defs.specs.Schema.{Document}
-use Rattle.schema_defs.specs.Children.{schema_at}
+use Rattle.std.specs.Prelude.{ℕ, List, [], ◌∷◌, Bool, true, false}
 use Rattle.entry_defs.specs.Entry.{the_root, Entry, reference}
 use Rattle.entry_defs.specs.Table.{TargetEntry}
 use Rattle.convert_defs.specs.Convert.{as_item}
-
--- whether the definition of the name stands under `$defs`
-abbrev pub is_under_defs : Document → List ℕ → Bool
-is_under_defs d n = is_some (schema_at d (codes "$defs" ∷ n ∷ []))
 
 -- the root as a target, where references lead to it
 abbrev pub root_targets_of : Bool → List ℕ → Entry → List TargetEntry

@@ -1,27 +1,29 @@
 -- What conversion tells of nodes of a conversion tree: their notes, where none of them has a fault, or else the first fault.
-use Rattle.std.specs.Prelude.{◌≡◌, ◌⊎◌, ℕ, ◌+◌, Contains, List, [], ◌∷◌, ◌++◌, Bool, true, false, Option, Some, None, if◌then◌else◌}
+use Rattle.std.specs.Prelude.{◌≡◌, ℕ, List, [], ◌∷◌, ◌++◌, Bool, true, false, Option, Some, None, if◌then◌else◌}
 use Rattle.run_io.specs.Bytes.{Rises}
 use Rattle.json_value.specs.Value.{Value, null, text}
 use Rattle.schema_defs.specs.Location.{Location}
 use Rattle.schema_defs.specs.Texts.{Relations}
-use Rattle.schema_defs.specs.Schema.{Schema, boolean, object, Definition, Document}
-use Rattle.schema_defs.specs.Admits.{definition_location}
+use Rattle.schema_defs.specs.Schema.{Schema, boolean, object, Document}
 use Rattle.entry_defs.specs.Entry.{Entry}
 use Rattle.convert_defs.specs.Row as row
 use Rattle.convert_defs.specs.Row.{Row, leaf_row, as_it_is_row, option_row, ruled_row, vec_row, set_row, array_row, tuple_row, map_row, pattern_map_row, struct_row, enum_row, merged_row, refused_row, Part, Finding, plainly, Cause}
 use Rattle.convert_defs.specs.Table.{finding_of}
-use Rattle.convert_defs.specs.Convert.{Node, notes_in}
-use Rattle.convert_defs.specs.Faults.{finding_faults, faults_in}
+use Rattle.convert_defs.specs.Faults.{finding_faults}
+use Rattle.convert_walks.specs.Spot.{Spot, Branches}
+use Rattle.convert_walks.specs.Tree.{Node, document_tree}
+use Rattle.convert_walks.specs.Told.{Reason, by_row, by_merge, too_deep, by_levels, notes_in, state_faults, faults_in}
 use Rattle.row_types.specs.declared.finding.Cause.{Cause as CodeCause}
 use Rattle.row_types.specs.View.{cause_view}
 use Rattle.schema_tree.specs.declared.fault.InvalidKind.TheVariants as invalid
 use Rattle.schema_tree.specs.declared.fault.UnsupportedKind.{UnsupportedKind}
 use Rattle.schema_tree.specs.declared.fault.UnsupportedKind.TheVariants as kind
 use Rattle.schema_tree.specs.Fault.{FaultD, memory, depth, places, bad_value, invalid_schema, unsupported, texts}
-use Rattle.convert_trees.specs.Places.{IsWalkTo}
+use Rattle.merged_rows.specs.Told.{unmerged_kind}
+use Rattle.row_merges.specs.Merges.{MergeD, merges_in}
 use Rattle.convert_trees.specs.Unread.{unread_of, unread_listed}
 use Rattle.convert_trees.specs.Keeping.{KeptD, with_unread}
-use Rattle.stated_laws.specs.Stated.{stated_of, stated_in}
+use Rattle.stated_walks.specs.Stated.{part_places, stated_at, stated_in}
 
 -- ---- the fault that is told for a cause
 
@@ -47,27 +49,10 @@ abbrev pub odd_value : Schema → Value
 odd_value (boolean b) = null
 odd_value (object p ss ls ns) = odd_in p.enum_values
 
--- a merge isn't built yet
-abbrev pub mix_kind : Row → UnsupportedKind
-mix_kind (merged_row ps) = kind.NotYet
-mix_kind (leaf_row e) = kind.Mix
-mix_kind (as_it_is_row p) = kind.Mix
-mix_kind (option_row p) = kind.Mix
-mix_kind (ruled_row p rule) = kind.Mix
-mix_kind (vec_row p) = kind.Mix
-mix_kind (set_row p) = kind.Mix
-mix_kind (array_row p n) = kind.Mix
-mix_kind (tuple_row ps n p) = kind.Mix
-mix_kind (map_row k p) = kind.Mix
-mix_kind (pattern_map_row qs p) = kind.Mix
-mix_kind (struct_row closed fs o) = kind.Mix
-mix_kind (enum_row tag closing ws) = kind.Mix
-mix_kind (refused_row c) = kind.Mix
-
 module _ (l : Location) (s : Schema) (f : Finding) where
   abbrev pub told_cause : Cause → FaultD
   told_cause row.conditional = unsupported l kind.Conditional
-  told_cause row.mix = unsupported l (mix_kind f.row)
+  told_cause row.mix = unsupported l kind.Mix
   told_cause row.mixed_enum = unsupported l kind.MixedEnum
   told_cause row.nested_enum = unsupported l kind.NestedEnum
   told_cause row.bad_not = unsupported l kind.Not
@@ -92,61 +77,64 @@ pub data RefusesBy (l : Location) (s : Schema) (f : Finding) (old new : ℕ) (cs
 pub data RowRefuses (l : Location) (s : Schema) (w : Row) (told : FaultD) : Type 0 where
   without_memory : told ≡ memory → RowRefuses l s w told
   by_refusal : (c : CodeCause) → w ≡ refused_row (cause_view c) → told ≡ told_cause l s (plainly (refused_row (cause_view c))) (cause_view c) → RowRefuses l s w told
-  by_merge : (ps : List Part) → w ≡ merged_row ps → told ≡ unsupported l kind.NotYet → RowRefuses l s w told
 
 -- want of memory, or that the default of the first field that states one isn't checked yet
-pub data TellsStated (l : Location) (ks : List Location) (told : FaultD) : Type 0 where
-  out_of_memory : told ≡ memory → TellsStated l ks told
-  by_default : (k : Location) (more : List Location) → ks ≡ k ∷ more → told ≡ unsupported (l ++ k) kind.NotYet → TellsStated l ks told
+pub data TellsStated (ls : List Location) (told : FaultD) : Type 0 where
+  out_of_memory : told ≡ memory → TellsStated ls told
+  by_default : (l : Location) (more : List Location) → ls ≡ l ∷ more → told ≡ unsupported l kind.NotYet → TellsStated ls told
 
 -- ---- nodes
 
--- neither a fault nor a stated default
-pub record AreFine (r : Relations) (d : Document) (most : ℕ) (ts : List Node) : Type 0 where
-  pub faultless : faults_in r d most ts ≡ []
-  pub unstated : stated_in r d ts ≡ []
+module _ (r : Relations) (d : Document) (most n : ℕ) where
+  -- neither a fault nor a stated default
+  pub record AreFine (ts : List Node) : Type 0 where
+    pub faultless : faults_in r d most n ts ≡ []
+    pub unstated : stated_in r d ts ≡ []
 
--- nothing to refuse, the notes, and the first listed value that isn't read
-pub record IsTold (r : Relations) (d : Document) (most : ℕ) (ts : List Node) (old new : KeptD) : Type 0 where
-  pub fine : AreFine r d most ts
-  pub notes : new.notes ≡ old.notes ++ notes_in r d ts
-  pub values : new.values ≡ with_unread (unread_listed r old.values.known d ts) old.values
+  -- nothing to refuse, the notes, the first listed value that isn't read, and the merges that are left
+  pub record IsTold (ts : List Node) (old new : KeptD) : Type 0 where
+    pub fine : AreFine ts
+    pub notes : new.notes ≡ old.notes ++ notes_in r d most n ts
+    pub values : new.values ≡ with_unread (unread_listed r old.values.known d ts) old.values
+    pub merges : (rest : List MergeD) → old.merges ≡ merges_in ts ++ rest → new.merges ≡ rest
 
--- the same of the parts of a schema, with the values that its own row lists
-pub record IsToldOf (r : Relations) (d : Document) (most : ℕ) (l : Location) (w : Row) (e : Entry) (ts : List Node) (old new : KeptD) : Type 0 where
-  pub fine : AreFine r d most ts
-  pub notes : new.notes ≡ old.notes ++ notes_in r d ts
-  pub values : new.values ≡ with_unread (unread_of r old.values.known l w e ++ unread_listed r old.values.known d ts) old.values
+  -- the same of the parts of a schema, with the values that its own row lists
+  pub record IsToldOf (l : Location) (w : Row) (e : Entry) (ts : List Node) (old new : KeptD) : Type 0 where
+    pub fine : AreFine ts
+    pub notes : new.notes ≡ old.notes ++ notes_in r d most n ts
+    pub values : new.values ≡ with_unread (unread_of r old.values.known l w e ++ unread_listed r old.values.known d ts) old.values
+    pub merges : (rest : List MergeD) → old.merges ≡ merges_in ts ++ rest → new.merges ≡ rest
 
--- the first fault of a schema of the tree, or its first stated default, which isn't checked yet
-pub data TellsOf (r : Relations) (d : Document) (most : ℕ) (start : Location) (t : Node) (f : FaultD) : Type 0 where
-  of_depth : (walk : List Location) → t.is_deep ≡ true → IsWalkTo start (most + 1) walk t.place → f ≡ depth walk → TellsOf r d most start t f
-  of_cause : (c : Cause) (cs : List Cause) → t.is_deep ≡ false → finding_faults r d most (finding_of r d t.schema) ≡ c ∷ cs
-      → f ≡ told_cause t.place t.schema (finding_of r d t.schema) c → TellsOf r d most start t f
-  of_default : (l : Location) (more : List Location) → t.is_deep ≡ false → finding_faults r d most (finding_of r d t.schema) ≡ [] → stated_of r d t ≡ l ∷ more
-      → f ≡ unsupported l kind.NotYet → TellsOf r d most start t f
+  -- what is told of a reason at its place
+  abbrev pub told_reason : Schema → Location → Reason → FaultD
+  told_reason s l (by_row c) = told_cause l s (finding_of r d s) c
+  told_reason s l (by_merge u) = unsupported l (unmerged_kind u)
+  told_reason s l (too_deep w) = depth w
+  told_reason s l by_levels = memory
 
--- the first fault of all
-pub record Tells (r : Relations) (d : Document) (most : ℕ) (start : Location) (ts : List Node) (f : FaultD) : Type 0 where
-  pub before : List Node
-  pub at : Node
-  pub after : List Node
-  pub split : ts ≡ before ++ at ∷ after
-  pub fine : AreFine r d most before
-  pub told : TellsOf r d most start at f
+  -- the first fault of a schema of the tree, or its first stated default, which isn't checked yet
+  pub data TellsOf (t : Node) (f : FaultD) : Type 0 where
+    of_reason : (l : Location) (why : Reason) (more : List (Location × Reason)) → state_faults r d most n t.spot t.schema t.state ≡ (l, why) ∷ more
+        → f ≡ told_reason t.schema l why → TellsOf t f
+    of_default : (l : Location) (more : List Location) → state_faults r d most n t.spot t.schema t.state ≡ [] → stated_at r d t.spot t.schema t.state ≡ l ∷ more
+        → f ≡ unsupported l kind.NotYet → TellsOf t f
 
--- no answer, or the first fault
-pub data Refuses (r : Relations) (d : Document) (most : ℕ) (start : Location) (old new : ℕ) (ts : List Node) (f : FaultD) : Type 0 where
-  by_none : NoAnswer old new f → Refuses r d most start old new ts f
-  by_fault : Tells r d most start ts f → Refuses r d most start old new ts f
+  -- the first fault of all
+  pub record Tells (ts : List Node) (f : FaultD) : Type 0 where
+    pub before : List Node
+    pub at : Node
+    pub after : List Node
+    pub split : ts ≡ before ++ at ∷ after
+    pub fine : AreFine before
+    pub told : TellsOf at f
 
--- ---- documents
+  -- no answer, or the first fault
+  pub data Refuses (old new : ℕ) (ts : List Node) (f : FaultD) : Type 0 where
+    by_none : NoAnswer old new f → Refuses old new ts f
+    by_fault : Tells ts f → Refuses old new ts f
 
--- the root, or where a definition stands
-abbrev pub IsStart : Document → Location → Type 0
-IsStart d l = (l ≡ []) ⊎ ((e : Definition) × Contains d.definitions e × (l ≡ definition_location e))
+-- ---- the merges that are left
 
--- no answer, or the first fault of these nodes, where a walk begins at the root or at a definition
-pub data RefusesAll (r : Relations) (d : Document) (most : ℕ) (old new : ℕ) (ts : List Node) (f : FaultD) : Type 0 where
-  by_want : NoAnswer old new f → RefusesAll r d most old new ts f
-  by_node : (start : Location) → IsStart d start → Tells r d most start ts f → RefusesAll r d most old new ts f
+-- they begin with these
+pub data Begins (left first : List MergeD) : Type 0 where
+  begins : (rest : List MergeD) → left ≡ first ++ rest → Begins left first

@@ -10,8 +10,8 @@ use Rattle.model_defs.specs.Model.{RuleD}
 use Rattle.scalar_takes.specs.Unread.{unread}
 use Rattle.convert_defs.specs.Row.{Row, leaf_row, as_it_is_row, option_row, ruled_row, vec_row, set_row, array_row, tuple_row, map_row, pattern_map_row, struct_row, enum_row, merged_row, refused_row}
 use Rattle.convert_defs.specs.Table.{row_of}
-use Rattle.convert_defs.specs.Convert.{Node, document_tree, table_of}
 use Rattle.convert_defs.specs.Values.{inner_of, listed_in}
+use Rattle.convert_walks.specs.Tree.{Node, document_tree, table_of}
 
 abbrev pub At : Type 0
 At = Location × Value
@@ -32,11 +32,11 @@ module _ (r : Relations) where
 
     abbrev pub unread_listed : Document → List Node → List At
     unread_listed d [] = []
-    unread_listed d (t ∷ ts) = unread_of t.place (row_of r d t.schema) t.entry ++ unread_listed d ts
+    unread_listed d (t ∷ ts) = unread_of t.spot.path (row_of r d t.schema) t.entry ++ unread_listed d ts
 
   -- of the document, in the order of conversion
-  abbrev pub unread_in_document : Document → ℕ → List At
-  unread_in_document d depth = unread_listed (Some (table_of r d depth)) d (document_tree r d depth)
+  abbrev pub unread_in_document : Document → ℕ → ℕ → List At
+  unread_in_document d most n = unread_listed (Some (table_of r d most n)) d (document_tree r d most n)
 
 -- ---- the first of them
 

@@ -6,11 +6,10 @@ ghost use Rattle.schema_tree.specs.Fault.{bad_value as bad_value_at, fault_view,
 ghost use Rattle.convert_defs.specs.Row.{plainly, refused_row};
 ghost use Rattle.row_types.specs.Given.{given_values_view, source_view};
 ghost use Rattle.row_types.specs.View.{cause_view};
-ghost use Rattle.convert_trees.specs.Places.{place_at, trail_count, TellsDepth};
 ghost use Rattle.convert_trees.specs.Told.{is_odd as is_odd_value, first_odd as first_odd_of, odd_in, odd_or, odd_value as odd_value_of, told_cause, NoAnswer};
 
-use crate::places::{location_of, walk_of};
 use crate::scope::Scope;
+use merged_rows::location_of;
 use row_types::{Cause, GivenValues, Source, Steps};
 use schema_tree::{Fault, InvalidKind, Schema, SchemaObject, TextFault, UnsupportedKind};
 use schema_types::Location;
@@ -114,17 +113,6 @@ fn unsupported(path: Location, kind: UnsupportedKind) -> Fault
     ensures { fault_view result ≡ unsupported_at path kind }
 {
     Fault::Unsupported { path, kind }
-}
-
-/// More steps than are left, at the end of the trail.
-#[tactic(auto, using(crate::proofs::Ends::want_deep, crate::proofs::Ends::walk_told))]
-pub fn too_deep(scope: &Scope<'_, '_>, trail: &Vec<Steps<'_>>) -> Fault
-    ensures { TellsDepth scope.now.start.now (trail_count trail.now.items) (place_at scope.now.start.now trail.now.items) (fault_view result) }
-{
-    match walk_of(scope.alloc, scope.start, trail) {
-        Ok(walk) => Fault::Depth { walk },
-        Err(_) => Fault::Memory,
-    }
 }
 
 /// What is told where the judge of texts gave no answer.

@@ -1,6 +1,7 @@
 //! What conversion keeps beside trees.
 use entry_trees::TreeTable;
 use note_order::PlacedNote;
+use row_merges::Merge;
 use schema_types::Location;
 use serde_json::Value;
 
@@ -19,9 +20,17 @@ pub struct Values<'d, 't, 'k> {
     pub unread: Option<Unread<'d>>,
 }
 
-/// The notes, and what is kept of listed values.
+/// What the rows of the document merge, in the order of conversion, and which comes next.
+#[derive(Clone, Copy)]
+pub struct Merges<'d> {
+    pub all: &'d Vec<Merge>,
+    pub next: usize,
+}
+
+/// The notes, what is kept of listed values, and the merges that are left.
 #[derive(Drop)]
 pub struct Kept<'d, 't, 'k> {
     pub notes: Vec<PlacedNote>,
     pub values: Values<'d, 't, 'k>,
+    pub merges: Merges<'d>,
 }

@@ -8,7 +8,6 @@ mod listed;
 mod names;
 mod notes;
 mod own;
-mod places;
 mod scope;
 mod stated;
 mod table;

@@ -1,43 +1,15 @@
 //! The parts of a row, each by a reference.
-ghost use Rattle.std.specs.Prelude.{◌≡◌, IfErr, IfOk, map};
+ghost use Rattle.std.specs.Prelude.{◌≡◌, IfErr, IfOk};
 ghost use Rattle.schema_defs.specs.Texts.{Relations};
 ghost use Rattle.schema_tree.specs.Fault.{fault_view, memory};
 ghost use Rattle.convert_defs.specs.Row.{row_parts};
-ghost use Rattle.row_types.specs.View.{part_view, row_view};
-ghost use Rattle.convert_trees.specs.Listed.{listed_view};
+ghost use Rattle.row_types.specs.View.{row_view};
+ghost use Rattle.row_merges.specs.Listed.{listed_view};
 
 use crate::scope::Scope;
-use row_trees::parts_of_row;
-use row_types::{Part, Row};
+use row_merges::Listed;
+use row_types::Row;
 use schema_tree::Fault;
-use std::alloc::{AllocError, Global};
-
-/// A part of a row.
-#[derive(Clone, Copy)]
-pub struct Listed<'r, 'd> {
-    pub part: &'r Part<'d>,
-}
-
-fn each_listed<'r, 'd>(
-    alloc: Global,
-    parts: Vec<&'r Part<'d>>,
-) -> Result<Vec<Listed<'r, 'd>>, AllocError>
-    ensures { IfOk result (λ v. listed_view v.items ≡ map (λ p. part_view p.now) parts.entry.items) }
-{
-    let mut listed = Vec::new(alloc);
-    for part in parts {
-        listed.push(Listed { part })?;
-    }
-    Ok(listed)
-}
-
-fn all_listed<'r, 'd>(alloc: Global, row: &'r Row<'d>) -> Result<Vec<Listed<'r, 'd>>, AllocError>
-    ensures { IfOk result (λ v. (r : Relations) → listed_view v.items ≡ row_parts (row_view r row.now)) }
-{
-    let parts = parts_of_row(alloc, row)?;
-    let listed = each_listed(alloc, parts)?;
-    Ok(listed)
-}
 
 /// The parts of the row, in the order of conversion.
 pub fn listed_parts<'r, 'd>(
@@ -47,7 +19,7 @@ pub fn listed_parts<'r, 'd>(
     ensures parts { IfOk result (λ v. (r : Relations) → listed_view v.items ≡ row_parts (row_view r row.now)) }
     ensures memory { IfErr result (λ f. fault_view f ≡ memory) }
 {
-    match all_listed(scope.alloc, row) {
+    match row_merges::listed_parts(scope.alloc, row) {
         Ok(parts) => Ok(parts),
         Err(_) => Err(Fault::Memory),
     }

@@ -1,41 +1,59 @@
 //! Notes at their places.
-ghost use Rattle.std.specs.Prelude.{◌≡◌, ◌++◌, ◌∷◌, [], OnOk, map};
-ghost use Rattle.convert_defs.specs.Convert.{placed};
-ghost use Rattle.row_types.specs.View.{note_view};
-ghost use Rattle.note_order.specs.Notes.{notes_view};
-ghost use Rattle.convert_trees.specs.Places.{place_at};
+ghost use Rattle.std.specs.Prelude.{◌≡◌, ◌++◌, IfErr, OnOk, map};
+ghost use Rattle.schema_tree.specs.Fault.{fault_view, memory};
+ghost use Rattle.convert_defs.specs.Convert.{Handed};
+ghost use Rattle.convert_walks.specs.Told.{merge_note, placed_note};
+ghost use Rattle.merge_parts.specs.View.{notes_view as merge_notes_view};
+ghost use Rattle.merged_rows.specs.Starts.{spot_of};
+ghost use Rattle.row_types.specs.View.{branch_view, note_view};
+ghost use Rattle.convert_trees.specs.Keeping.{kept_view};
 
-use crate::places::{location_of, with_steps};
+use crate::keeping::Kept;
 use crate::scope::Scope;
-use note_order::PlacedNote;
-use row_types::{Note, Steps};
-use schema_types::Location;
-use std::alloc::AllocError;
+use merge_parts::MergeNote;
+use merged_rows::{push_merge_notes, push_row_notes};
+use row_types::{Finding, Steps};
+use schema_tree::Fault;
 
-fn push_note(notes: &mut Vec<PlacedNote>, note: &Note<'_>, path: Location) -> Result<(), AllocError>
-    ensures { OnOk result (notes_view notes.new.items ≡ notes_view notes.old.items ++ record { way = (note_view note.now).way; kind = (note_view note.now).kind; place = path } ∷ []) }
+/// Adds the notes of the row that was found at the end of a trail.
+pub fn keep_notes<'d>(
+    scope: &Scope<'d, '_>,
+    trail: &Vec<Steps<'d>>,
+    finding: &Finding<'d>,
+    kept: &mut Kept<'d, '_, '_>,
+) -> Result<(), Fault>
+    ensures notes { OnOk result ((h : Handed) → (kept_view kept.new).notes ≡ (kept_view kept.old).notes ++ map (placed_note (spot_of scope.now.start.now trail.now.items h) (map branch_view finding.now.branches.items)) (map note_view finding.now.notes.items)) }
+    ensures values { OnOk result ((kept_view kept.new).values ≡ (kept_view kept.old).values) }
+    ensures merges { OnOk result ((kept_view kept.new).merges ≡ (kept_view kept.old).merges) }
+    ensures memory { IfErr result (λ f. fault_view f ≡ memory) }
 {
-    notes.push(PlacedNote {
-        way: note.way,
-        kind: note.kind,
-        path,
-    })?;
-    Ok(())
+    match push_row_notes(
+        scope.alloc,
+        scope.start,
+        trail,
+        &finding.branches,
+        &finding.notes,
+        &mut kept.notes,
+    ) {
+        Ok(_) => Ok(()),
+        Err(_) => Err(Fault::Memory),
+    }
 }
 
-/// Adds the notes of the schema at the end of a trail.
-pub fn push_notes(
-    scope: &Scope<'_, '_>,
-    trail: &Vec<Steps<'_>>,
-    found: &Vec<Note<'_>>,
-    notes: &mut Vec<PlacedNote>,
-) -> Result<(), AllocError>
-    ensures { OnOk result (notes_view notes.new.items ≡ notes_view notes.old.items ++ placed (place_at scope.now.start.now trail.now.items) (map note_view found.now.items)) }
+/// Adds the notes of a merge at the end of a trail.
+pub fn keep_merge_notes<'d>(
+    scope: &Scope<'d, '_>,
+    trail: &Vec<Steps<'d>>,
+    notes: &Vec<MergeNote>,
+    kept: &mut Kept<'d, '_, '_>,
+) -> Result<(), Fault>
+    ensures notes { OnOk result ((h : Handed) → (kept_view kept.new).notes ≡ (kept_view kept.old).notes ++ map (merge_note (spot_of scope.now.start.now trail.now.items h)) (merge_notes_view notes.now.items)) }
+    ensures values { OnOk result ((kept_view kept.new).values ≡ (kept_view kept.old).values) }
+    ensures merges { OnOk result ((kept_view kept.new).merges ≡ (kept_view kept.old).merges) }
+    ensures memory { IfErr result (λ f. fault_view f ≡ memory) }
 {
-    for note in found {
-        let place = location_of(scope.alloc, scope.start, trail)?;
-        let path = with_steps(scope.alloc, place, note.place)?;
-        push_note(notes, note, path)?;
+    match push_merge_notes(scope.alloc, scope.start, trail, notes, &mut kept.notes) {
+        Ok(_) => Ok(()),
+        Err(_) => Err(Fault::Memory),
     }
-    Ok(())
 }

@@ -3,20 +3,20 @@ ghost use Rattle.std.specs.Prelude.{◌≡◌, ◌≤◌, ◌⊎◌, ℕ, [], �
 ghost use Rattle.std.specs.List.{list_all};
 ghost use Rattle.schema_defs.specs.Texts.{Relations};
 ghost use Rattle.schema_defs.specs.Schema.{Document as DocumentOf};
-ghost use Rattle.schema_tree.specs.Fault.{fault_view, memory, unsupported as unsupported_at};
+ghost use Rattle.schema_tree.specs.Fault.{fault_view, memory};
 ghost use Rattle.convert_defs.specs.Faults.{fault_if, finding_faults, row_faults};
 ghost use Rattle.convert_defs.specs.Row.{bad_pattern as bad_pattern_cause, places as places_cause, plainly, refused_row};
 ghost use Rattle.convert_defs.specs.Table.{reference_row};
 ghost use Rattle.row_types.specs.Given.{source_view};
 ghost use Rattle.row_types.specs.View.{cause_view, finding_view, patterns_view, row_view};
-ghost use Rattle.convert_trees.specs.Places.{place_at};
+ghost use Rattle.merged_rows.specs.Starts.{path_by};
 ghost use Rattle.convert_trees.specs.Told.{told_cause, RefusesBy, RowRefuses};
 
 use crate::faults::{refused_fault, text_fault};
-use crate::places::location_of;
 use crate::scope::Scope;
+use merged_rows::location_of;
 use row_types::{Cause, Finding, Row, Source, Steps};
-use schema_tree::{Fault, InvalidKind, Texts, UnsupportedKind};
+use schema_tree::{Fault, InvalidKind, Texts};
 use tree_parts::{asked_patterns, target_named};
 
 // Each pattern is one.
@@ -29,7 +29,7 @@ fn check_patterns<T: Texts>(
     texts: &mut T,
 ) -> Result<(), Fault>
     ensures fine { OnOk result (fault_if (not (list_all (T.relations texts.old).is_pattern (patterns_view finding.now.patterns))) bad_pattern_cause ≡ []) }
-    ensures refused { IfErr result (λ f. RefusesBy (place_at scope.now.start.now trail.now.items) (source_view source.now) (finding_view (T.relations texts.old) finding.now) (T.faults texts.old) (T.faults texts.new) (fault_if (not (list_all (T.relations texts.old).is_pattern (patterns_view finding.now.patterns))) bad_pattern_cause) (fault_view f)) }
+    ensures refused { IfErr result (λ f. RefusesBy (path_by scope.now.start.now trail.now.items) (source_view source.now) (finding_view (T.relations texts.old) finding.now) (T.faults texts.old) (T.faults texts.new) (fault_if (not (list_all (T.relations texts.old).is_pattern (patterns_view finding.now.patterns))) bad_pattern_cause) (fault_view f)) }
     ensures keeps { T.relations texts.new ≡ T.relations texts.old }
     ensures counts { T.faults texts.old ≤ T.faults texts.new }
 {
@@ -47,7 +47,7 @@ fn bad_pattern(
     source: &Source<'_>,
     finding: &Finding<'_>,
 ) -> Fault
-    ensures { (r : Relations) (old : ℕ) (new : ℕ) → RefusesBy (place_at scope.now.start.now trail.now.items) (source_view source.now) (finding_view r finding.now) old new (bad_pattern_cause ∷ []) (fault_view result) }
+    ensures { (r : Relations) (old : ℕ) (new : ℕ) → RefusesBy (path_by scope.now.start.now trail.now.items) (source_view source.now) (finding_view r finding.now) old new (bad_pattern_cause ∷ []) (fault_view result) }
 {
     let _ = source;
     let _ = finding;
@@ -68,7 +68,7 @@ fn check_places(
     finding: &Finding<'_>,
 ) -> Result<(), Fault>
     ensures fine { OnOk result (fault_if (not (nat_le finding.now.places scope.now.depth)) places_cause ≡ []) }
-    ensures refused { IfErr result (λ f. (r : Relations) (old : ℕ) (new : ℕ) → RefusesBy (place_at scope.now.start.now trail.now.items) (source_view source.now) (finding_view r finding.now) old new (fault_if (not (nat_le finding.now.places scope.now.depth)) places_cause) (fault_view f)) }
+    ensures refused { IfErr result (λ f. (r : Relations) (old : ℕ) (new : ℕ) → RefusesBy (path_by scope.now.start.now trail.now.items) (source_view source.now) (finding_view r finding.now) old new (fault_if (not (nat_le finding.now.places scope.now.depth)) places_cause) (fault_view f)) }
 {
     if finding.places <= scope.depth {
         return Ok(());
@@ -83,7 +83,7 @@ fn many_places(
     source: &Source<'_>,
     finding: &Finding<'_>,
 ) -> Fault
-    ensures { (r : Relations) (old : ℕ) (new : ℕ) → RefusesBy (place_at scope.now.start.now trail.now.items) (source_view source.now) (finding_view r finding.now) old new (places_cause ∷ []) (fault_view result) }
+    ensures { (r : Relations) (old : ℕ) (new : ℕ) → RefusesBy (path_by scope.now.start.now trail.now.items) (source_view source.now) (finding_view r finding.now) old new (places_cause ∷ []) (fault_view result) }
 {
     let _ = source;
     match location_of(scope.alloc, scope.start, trail) {
@@ -95,26 +95,13 @@ fn many_places(
     }
 }
 
-// A merge isn't built yet.
-fn unmerged(scope: &Scope<'_, '_>, trail: &Vec<Steps<'_>>) -> Fault
-    ensures { (fault_view result ≡ memory) ⊎ (fault_view result ≡ unsupported_at (place_at scope.now.start.now trail.now.items) UnsupportedKind.NotYet) }
-{
-    match location_of(scope.alloc, scope.start, trail) {
-        Ok(path) => Fault::Unsupported {
-            path,
-            kind: UnsupportedKind::NotYet,
-        },
-        Err(_) => Fault::Memory,
-    }
-}
-
 fn refused(
     scope: &Scope<'_, '_>,
     trail: &Vec<Steps<'_>>,
     source: &Source<'_>,
     cause: Cause,
 ) -> Fault
-    ensures { (fault_view result ≡ memory) ⊎ (fault_view result ≡ told_cause (place_at scope.now.start.now trail.now.items) (source_view source.now) (plainly (refused_row (cause_view cause))) (cause_view cause)) }
+    ensures { (fault_view result ≡ memory) ⊎ (fault_view result ≡ told_cause (path_by scope.now.start.now trail.now.items) (source_view source.now) (plainly (refused_row (cause_view cause))) (cause_view cause)) }
 {
     match location_of(scope.alloc, scope.start, trail) {
         Ok(path) => refused_fault(path, source, cause),
@@ -131,7 +118,7 @@ fn check_reference(
     reference: &str,
 ) -> Result<(), Fault>
     ensures fine { OnOk result ((r : Relations) (d : DocumentOf) (n : ℕ) → row_faults r d n (reference_row (Some reference.now)) ≡ []) }
-    ensures refused { IfErr result (λ f. RowRefuses (place_at scope.now.start.now trail.now.items) (source_view source.now) (reference_row (Some reference.now)) (fault_view f)) }
+    ensures refused { IfErr result (λ f. RowRefuses (path_by scope.now.start.now trail.now.items) (source_view source.now) (reference_row (Some reference.now)) (fault_view f)) }
 {
     match target_named(scope.alloc, reference) {
         Ok(Some(_)) => Ok(()),
@@ -140,7 +127,7 @@ fn check_reference(
     }
 }
 
-#[tactic(auto, using(crate::proofs::Causes::row_refused, crate::proofs::Causes::row_merged))]
+#[tactic(auto, using(crate::proofs::Causes::row_refused))]
 fn check_row(
     scope: &Scope<'_, '_>,
     trail: &Vec<Steps<'_>>,
@@ -148,11 +135,11 @@ fn check_row(
     row: &Row<'_>,
 ) -> Result<(), Fault>
     ensures fine { OnOk result ((r : Relations) (d : DocumentOf) (n : ℕ) → row_faults r d n (row_view r row.now) ≡ []) }
-    ensures refused { IfErr result (λ f. (r : Relations) → RowRefuses (place_at scope.now.start.now trail.now.items) (source_view source.now) (row_view r row.now) (fault_view f)) }
+    ensures refused { IfErr result (λ f. (r : Relations) → RowRefuses (path_by scope.now.start.now trail.now.items) (source_view source.now) (row_view r row.now) (fault_view f)) }
 {
     match row {
         Row::Refused(cause) => Err(refused(scope, trail, source, *cause)),
-        Row::Merged(_) => Err(unmerged(scope, trail)),
+        Row::Merged(_) => Err(Fault::Memory),
         Row::Reference(reference) => {
             check_reference(scope, trail, source, reference.as_str())?;
             Ok(())
@@ -184,7 +171,7 @@ fn check_row(
     }
 }
 
-/// Fails with the first fault of the schema itself.
+/// Fails with the first fault of a schema itself whose row doesn't merge; one that does is answered by want of memory.
 #[tactic(auto, using(crate::proofs::Causes::all_fine, crate::proofs::Causes::first_refuses, crate::proofs::Causes::second_refuses, crate::proofs::Causes::row_refuses))]
 pub fn check_own<T: Texts>(
     scope: &Scope<'_, '_>,
@@ -194,7 +181,7 @@ pub fn check_own<T: Texts>(
     texts: &mut T,
 ) -> Result<(), Fault>
     ensures fine { OnOk result ((d : DocumentOf) → finding_faults (T.relations texts.old) d scope.now.depth (finding_view (T.relations texts.old) finding.now) ≡ []) }
-    ensures refused { IfErr result (λ f. (d : DocumentOf) → RefusesBy (place_at scope.now.start.now trail.now.items) (source_view source.now) (finding_view (T.relations texts.old) finding.now) (T.faults texts.old) (T.faults texts.new) (finding_faults (T.relations texts.old) d scope.now.depth (finding_view (T.relations texts.old) finding.now)) (fault_view f)) }
+    ensures refused { IfErr result (λ f. (d : DocumentOf) → RefusesBy (path_by scope.now.start.now trail.now.items) (source_view source.now) (finding_view (T.relations texts.old) finding.now) (T.faults texts.old) (T.faults texts.new) (finding_faults (T.relations texts.old) d scope.now.depth (finding_view (T.relations texts.old) finding.now)) (fault_view f)) }
     ensures keeps { T.relations texts.new ≡ T.relations texts.old }
     ensures counts { T.faults texts.old ≤ T.faults texts.new }
 {

@@ -1,6 +1,6 @@
 //! What a conversion goes by.
+use merged_rows::Start;
 use schema_tree::Document;
-use schema_types::Location;
 use std::alloc::Global;
 
 /// The document, the greatest number of steps and of places, and where the tree begins.
@@ -9,5 +9,5 @@ pub struct Scope<'d, 's> {
     pub alloc: Global,
     pub document: &'d Document,
     pub depth: u32,
-    pub start: &'s Location,
+    pub start: &'s Start,
 }

@@ -3,53 +3,44 @@ ghost use Rattle.std.specs.Prelude.{◌≡◌, ◌⊎◌, ◌++◌, [], IfErr, I
 ghost use Rattle.schema_defs.specs.Texts.{Relations};
 ghost use Rattle.schema_tree.specs.Fault.{fault_view, memory, unsupported as unsupported_at};
 ghost use Rattle.scalar_takes.specs.Unread.{first_of};
-ghost use Rattle.stated_laws.specs.Stated.{stated_body, stated_by, stated_fields, stated_steps, stated_variants, steps_to as steps_to_part};
-ghost use Rattle.row_types.specs.View.{body_view, field_view, part_view, row_view, state_view, steps_view, variant_view};
-ghost use Rattle.convert_trees.specs.Places.{place_at};
+ghost use Rattle.convert_defs.specs.Convert.{Handed};
+ghost use Rattle.convert_walks.specs.Spot.{part_spot};
+ghost use Rattle.merged_rows.specs.Starts.{spot_of};
+ghost use Rattle.row_types.specs.View.{body_view, branch_view, field_view, part_view, row_view, state_view, variant_view};
+ghost use Rattle.stated_walks.specs.Stated.{part_places, stated_body, stated_by, stated_fields, stated_parts, stated_variants};
 ghost use Rattle.convert_trees.specs.Told.{TellsStated};
 
-use crate::places::{location_of, with_steps};
 use crate::scope::Scope;
-use row_types::{FieldRow, FieldState, Part, PartKind, Row, Steps, VariantBody, VariantRow};
+use merged_rows::{location_of, place_of_part, start_at};
+use row_types::{Branch, FieldRow, FieldState, Finding, Part, Row, Steps, VariantBody, VariantRow};
 use schema_tree::{Fault, UnsupportedKind};
 use schema_types::Location;
 use std::alloc::AllocError;
 
-fn steps_to<'d>(part: &Part<'d>) -> Steps<'d>
-    ensures { steps_view result ≡ steps_to_part (part_view part.now) }
-{
-    match part.kind {
-        PartKind::Child => part.steps,
-        PartKind::OfBranch => part.steps,
-        PartKind::Lone => part.steps,
-        PartKind::Made => Steps::Here,
-    }
-}
-
-fn by_field<'d>(field: &FieldRow<'d>) -> Option<Steps<'d>>
-    ensures { option_map steps_view result ≡ first_of (stated_by (state_view field.now.state) (steps_to_part (part_view field.now.part))) }
+fn by_field<'r, 'd>(field: &'r FieldRow<'d>) -> Option<&'r Part<'d>>
+    ensures { option_map (λ p. part_view p.now) result ≡ first_of (stated_by (state_view field.now.state) (part_view field.now.part)) }
 {
     match field.state {
         FieldState::Required => None,
         FieldState::Optional => None,
-        FieldState::Stated(_) => Some(steps_to(&field.part)),
+        FieldState::Stated(_) => Some(&field.part),
     }
 }
 
-fn by_fields<'d>(fields: &Vec<FieldRow<'d>>) -> Option<Steps<'d>>
-    ensures { option_map steps_view result ≡ first_of (stated_fields (map field_view fields.now.items)) }
+fn by_fields<'r, 'd>(fields: &'r Vec<FieldRow<'d>>) -> Option<&'r Part<'d>>
+    ensures { option_map (λ p. part_view p.now) result ≡ first_of (stated_fields (map field_view fields.now.items)) }
 {
     for field in fields {
-        let steps = by_field(field);
-        if steps.is_some() {
-            return steps;
+        let part = by_field(field);
+        if part.is_some() {
+            return part;
         }
     }
     None
 }
 
-fn by_body<'d>(body: &VariantBody<'d>) -> Option<Steps<'d>>
-    ensures { option_map steps_view result ≡ first_of (stated_body (body_view body.now)) }
+fn by_body<'r, 'd>(body: &'r VariantBody<'d>) -> Option<&'r Part<'d>>
+    ensures { option_map (λ p. part_view p.now) result ≡ first_of (stated_body (body_view body.now)) }
 {
     match body {
         VariantBody::Unit => None,
@@ -58,21 +49,21 @@ fn by_body<'d>(body: &VariantBody<'d>) -> Option<Steps<'d>>
     }
 }
 
-fn by_variants<'d>(variants: &Vec<VariantRow<'d>>) -> Option<Steps<'d>>
-    ensures { option_map steps_view result ≡ first_of (stated_variants (map variant_view variants.now.items)) }
+fn by_variants<'r, 'd>(variants: &'r Vec<VariantRow<'d>>) -> Option<&'r Part<'d>>
+    ensures { option_map (λ p. part_view p.now) result ≡ first_of (stated_variants (map variant_view variants.now.items)) }
 {
     for variant in variants {
-        let steps = by_body(&variant.body);
-        if steps.is_some() {
-            return steps;
+        let part = by_body(&variant.body);
+        if part.is_some() {
+            return part;
         }
     }
     None
 }
 
-// The steps to the first part whose field states a default.
-fn by_row<'d>(row: &Row<'d>) -> Option<Steps<'d>>
-    ensures { (r : Relations) → option_map steps_view result ≡ first_of (stated_steps (row_view r row.now)) }
+// The first part whose field states a default.
+fn by_row<'r, 'd>(row: &'r Row<'d>) -> Option<&'r Part<'d>>
+    ensures { (r : Relations) → option_map (λ p. part_view p.now) result ≡ first_of (stated_parts (row_view r row.now)) }
 {
     match row {
         Row::Struct {
@@ -105,22 +96,28 @@ fn by_row<'d>(row: &Row<'d>) -> Option<Steps<'d>>
     }
 }
 
-fn place_behind(
+fn path_of_part<'d>(
     scope: &Scope<'_, '_>,
-    trail: &Vec<Steps<'_>>,
-    steps: Steps<'_>,
+    trail: &Vec<Steps<'d>>,
+    branches: &Vec<Branch<'d>>,
+    part: &Part<'d>,
 ) -> Result<Location, AllocError>
-    ensures { IfOk result (λ l. l ≡ place_at scope.now.start.now trail.now.items ++ steps_view steps.entry) }
+    ensures { IfOk result (λ l. (h : Handed) → l ≡ (part_spot (spot_of scope.now.start.now trail.now.items h) (map branch_view branches.now.items) (part_view part.now)).path) }
 {
-    let place = location_of(scope.alloc, scope.start, trail)?;
-    let path = with_steps(scope.alloc, place, steps)?;
+    let place = place_of_part(scope.alloc, scope.start, trail, branches, part)?;
+    let path = location_of(scope.alloc, start_at(scope.start, &place), &place.trail)?;
     Ok(path)
 }
 
-fn not_yet(scope: &Scope<'_, '_>, trail: &Vec<Steps<'_>>, steps: Steps<'_>) -> Fault
-    ensures { (fault_view result ≡ memory) ⊎ (fault_view result ≡ unsupported_at (place_at scope.now.start.now trail.now.items ++ steps_view steps.entry) UnsupportedKind.NotYet) }
+fn not_yet<'d>(
+    scope: &Scope<'_, '_>,
+    trail: &Vec<Steps<'d>>,
+    branches: &Vec<Branch<'d>>,
+    part: &Part<'d>,
+) -> Fault
+    ensures { (h : Handed) → (fault_view result ≡ memory) ⊎ (fault_view result ≡ unsupported_at (part_spot (spot_of scope.now.start.now trail.now.items h) (map branch_view branches.now.items) (part_view part.now)).path UnsupportedKind.NotYet) }
 {
-    match place_behind(scope, trail, steps) {
+    match path_of_part(scope, trail, branches, part) {
         Ok(path) => Fault::Unsupported {
             path,
             kind: UnsupportedKind::NotYet,
@@ -130,16 +127,16 @@ fn not_yet(scope: &Scope<'_, '_>, trail: &Vec<Steps<'_>>, steps: Steps<'_>) -> F
 }
 
 /// Defaults aren't checked yet: the first that the row's fields state is told at its property.
-pub fn check_stated(
+pub fn check_stated<'d>(
     scope: &Scope<'_, '_>,
-    trail: &Vec<Steps<'_>>,
-    row: &Row<'_>,
+    trail: &Vec<Steps<'d>>,
+    finding: &Finding<'d>,
 ) -> Result<(), Fault>
-    ensures unstated { OnOk result ((r : Relations) → stated_steps (row_view r row.now) ≡ []) }
-    ensures told { IfErr result (λ f. (r : Relations) → TellsStated (place_at scope.now.start.now trail.now.items) (stated_steps (row_view r row.now)) (fault_view f)) }
+    ensures unstated { OnOk result ((r : Relations) → stated_parts (row_view r finding.now.row) ≡ []) }
+    ensures told { IfErr result (λ f. (r : Relations) (h : Handed) → TellsStated (part_places (spot_of scope.now.start.now trail.now.items h) (map branch_view finding.now.branches.items) (stated_parts (row_view r finding.now.row))) (fault_view f)) }
 {
-    match by_row(row) {
-        Some(steps) => Err(not_yet(scope, trail, steps)),
+    match by_row(&finding.row) {
+        Some(part) => Err(not_yet(scope, trail, &finding.branches, part)),
         None => Ok(()),
     }
 }

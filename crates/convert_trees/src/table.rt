@@ -1,31 +1,37 @@
 //! The table of a document.
-ghost use Rattle.std.specs.Prelude.{◌≡◌, ◌≤◌, ◌++◌, suc, [], ◌∷◌, true, None, Some, IfErr, IfOk, OnOk, map, option_map};
+ghost use Rattle.std.specs.Prelude.{◌≡◌, ◌≤◌, ◌++◌, suc, [], ◌∷◌, true, false, None, Some, IfErr, IfOk, OnOk, map, option_map};
 ghost use Rattle.schema_defs.specs.Admits.{defined, definition_word};
 ghost use Rattle.schema_types.specs.View.{schema_view};
 ghost use Rattle.schema_tree.specs.Document.{view as document_seen};
 ghost use Rattle.schema_tree.specs.Fault.{fault_view, memory};
 ghost use Rattle.entry_trees.specs.View.{item_in, table_view, target_entry, tree_view};
 ghost use Rattle.entry_defs.specs.Entry.{definition, the_root};
-ghost use Rattle.convert_defs.specs.Convert.{as_item as as_item_of, definition_target, definition_trees, document_tree, notes_in, raw_entry, root_entry, root_name as root_name_of, root_tree as root_tree_of, table_of as table_of_document, tree as tree_of};
-ghost use Rattle.convert_defs.specs.Faults.{faults_of};
+ghost use Rattle.convert_defs.specs.Convert.{Handed, as_item as as_item_of, root_name as root_name_of};
+ghost use Rattle.convert_walks.specs.Told.{faults_of, notes_in};
+ghost use Rattle.convert_walks.specs.Tree.{definition_target, definition_trees, document_tree, entry_at, root_entry, root_spot, table_of as table_of_document, tree_at as tree_nodes};
+ghost use Rattle.merge_walks.specs.Carried.{root_walk};
+ghost use Rattle.merged_rows.specs.Starts.{spot_of};
+ghost use Rattle.row_merges.specs.Merges.{merges_in, merges_view};
 ghost use Rattle.convert_defs.specs.RootReference.{refers_to_root as refers_to_root_of};
 ghost use Rattle.note_order.specs.Notes.{notes_view};
 ghost use Rattle.convert_trees.specs.Keeping.{kept_view, unread_view};
-ghost use Rattle.convert_trees.specs.Tables.{is_under_defs, root_targets_of, root_use_of};
-ghost use Rattle.convert_trees.specs.Told.{IsTold, Refuses, RefusesAll};
+ghost use Rattle.row_merges.specs.Definitions.{is_under_defs};
+ghost use Rattle.convert_trees.specs.Tables.{root_targets_of, root_use_of};
+ghost use Rattle.convert_trees.specs.Told.{Begins, IsTold, Refuses};
 ghost use Rattle.convert_trees.specs.Unread.{first_kept, unread_in_document, unread_listed};
-ghost use Rattle.stated_laws.specs.Stated.{stated_in_document};
+ghost use Rattle.stated_walks.specs.Stated.{stated_in_document};
 
-use crate::convert::{MOST_MADE, convert};
-use crate::keeping::{Kept, Unread, Values};
+use crate::convert::convert;
+use crate::keeping::{Kept, Merges, Unread, Values};
 use crate::names::root_name;
 use crate::scope::Scope;
 use entry_trees::{Atom, Target, Tree, TreeTable};
+use merged_rows::Start;
 use note_order::PlacedNote;
 use root_references::refers_to_root;
+use row_merges::{Merge, definition_start, root_start};
 use row_types::Source;
 use schema_tree::{Document, Fault, Schema, Texts};
-use schema_types::Location;
 use std::alloc::{AllocError, Global};
 use tree_parts::{as_item, atom};
 
@@ -42,21 +48,33 @@ pub struct Converted<'d> {
 pub fn table_of<'d, T: Texts>(
     alloc: Global,
     document: &'d Document,
+    merges: &'d Vec<Merge>,
     depth: u32,
+    levels: u32,
     texts: &mut T,
 ) -> Result<Converted<'d>, Fault>
-    ensures table { IfOk result (λ c. table_view c.table ≡ table_of_document (T.relations texts.old) (document_seen document.now) depth) }
-    ensures faultless { OnOk result (faults_of (T.relations texts.old) (document_seen document.now) depth ≡ []) }
-    ensures stated { OnOk result (stated_in_document (T.relations texts.old) (document_seen document.now) depth ≡ []) }
-    ensures notes { IfOk result (λ c. notes_view c.notes.items ≡ notes_in (T.relations texts.old) (document_seen document.now) (document_tree (T.relations texts.old) (document_seen document.now) depth)) }
-    ensures unread { IfOk result (λ c. option_map unread_view c.unread ≡ first_kept None (unread_in_document (T.relations texts.old) (document_seen document.now) depth)) }
-    ensures refused { IfErr result (λ f. RefusesAll (T.relations texts.old) (document_seen document.now) depth (T.faults texts.old) (T.faults texts.new) (document_tree (T.relations texts.old) (document_seen document.now) depth) (fault_view f)) }
+    requires { merges_view merges.now.items ≡ merges_in (document_tree (T.relations texts.old) (document_seen document.now) depth levels) }
+    ensures table { IfOk result (λ c. table_view c.table ≡ table_of_document (T.relations texts.old) (document_seen document.now) depth levels) }
+    ensures faultless { OnOk result (faults_of (T.relations texts.old) (document_seen document.now) depth levels ≡ []) }
+    ensures stated { OnOk result (stated_in_document (T.relations texts.old) (document_seen document.now) depth levels ≡ []) }
+    ensures notes { IfOk result (λ c. notes_view c.notes.items ≡ notes_in (T.relations texts.old) (document_seen document.now) depth levels (document_tree (T.relations texts.old) (document_seen document.now) depth levels)) }
+    ensures unread { IfOk result (λ c. option_map unread_view c.unread ≡ first_kept None (unread_in_document (T.relations texts.old) (document_seen document.now) depth levels)) }
+    ensures refused { IfErr result (λ f. Refuses (T.relations texts.old) (document_seen document.now) depth levels (T.faults texts.old) (T.faults texts.new) (document_tree (T.relations texts.old) (document_seen document.now) depth levels) (fault_view f)) }
     ensures keeps { T.relations texts.new ≡ T.relations texts.old }
     ensures counts { T.faults texts.old ≤ T.faults texts.new }
 {
-    let mut kept = nothing_kept(alloc, None);
-    let table = table_with(alloc, document, depth, texts, &mut kept)?;
-    let unread = first_unread(alloc, document, depth, texts, &table, &kept.values.unread)?;
+    let mut kept = nothing_kept(alloc, None, merges);
+    let table = table_with(alloc, document, depth, levels, texts, &mut kept)?;
+    let unread = first_unread(
+        alloc,
+        document,
+        merges,
+        depth,
+        levels,
+        texts,
+        &table,
+        &kept.values.unread,
+    )?;
     Ok(Converted {
         table,
         notes: kept.notes,
@@ -64,15 +82,24 @@ pub fn table_of<'d, T: Texts>(
     })
 }
 
-/// Nothing is kept yet. Listed values are asked by the table, and where none is known all count as unread. It takes no memory.
-pub fn nothing_kept<'d, 't, 'k>(alloc: Global, known: Option<&'t TreeTable<'k>>) -> Kept<'d, 't, 'k>
-    ensures { kept_view result ≡ record { notes = []; values = record { known = option_map (λ t. table_view t.now) known.entry; unread = None } } }
+/// Nothing is kept yet, and all merges are left. Listed values are asked by the table, and where none is known all count as unread. It takes
+/// no memory.
+pub fn nothing_kept<'d, 't, 'k>(
+    alloc: Global,
+    known: Option<&'t TreeTable<'k>>,
+    merges: &'d Vec<Merge>,
+) -> Kept<'d, 't, 'k>
+    ensures { kept_view result ≡ record { notes = []; values = record { known = option_map (λ t. table_view t.now) known.entry; unread = None }; merges = merges_view merges.now.items } }
 {
     Kept {
         notes: Vec::new(alloc),
         values: Values {
             known,
             unread: None,
+        },
+        merges: Merges {
+            all: merges,
+            next: 0,
         },
     }
 }
@@ -82,17 +109,19 @@ fn table_with<'d, T: Texts>(
     alloc: Global,
     document: &'d Document,
     depth: u32,
+    levels: u32,
     texts: &mut T,
     kept: &mut Kept<'d, '_, '_>,
 ) -> Result<TreeTable<'d>, Fault>
-    ensures table { IfOk result (λ t. table_view t ≡ table_of_document (T.relations texts.old) (document_seen document.now) depth) }
-    ensures told { OnOk result (IsTold (T.relations texts.old) (document_seen document.now) depth (document_tree (T.relations texts.old) (document_seen document.now) depth) (kept_view kept.old) (kept_view kept.new)) }
-    ensures refused { IfErr result (λ f. RefusesAll (T.relations texts.old) (document_seen document.now) depth (T.faults texts.old) (T.faults texts.new) (document_tree (T.relations texts.old) (document_seen document.now) depth) (fault_view f)) }
+    requires { Begins (kept_view kept.old).merges (merges_in (document_tree (T.relations texts.old) (document_seen document.now) depth levels)) }
+    ensures table { IfOk result (λ t. table_view t ≡ table_of_document (T.relations texts.old) (document_seen document.now) depth levels) }
+    ensures told { OnOk result (IsTold (T.relations texts.old) (document_seen document.now) depth levels (document_tree (T.relations texts.old) (document_seen document.now) depth levels) (kept_view kept.old) (kept_view kept.new)) }
+    ensures refused { IfErr result (λ f. Refuses (T.relations texts.old) (document_seen document.now) depth levels (T.faults texts.old) (T.faults texts.new) (document_tree (T.relations texts.old) (document_seen document.now) depth levels) (fault_view f)) }
     ensures keeps { T.relations texts.new ≡ T.relations texts.old }
     ensures counts { T.faults texts.old ≤ T.faults texts.new }
 {
-    let targets = definition_targets(alloc, document, depth, texts, kept)?;
-    let root = root_tree(alloc, document, depth, texts, kept)?;
+    let targets = definition_targets(alloc, document, depth, levels, texts, kept)?;
+    let root = root_tree(alloc, document, depth, levels, texts, kept)?;
     let table = rooted(alloc, document, targets, root)?;
     Ok(table)
 }
@@ -101,19 +130,22 @@ fn table_with<'d, T: Texts>(
 fn first_unread<'d, T: Texts>(
     alloc: Global,
     document: &'d Document,
+    merges: &'d Vec<Merge>,
     depth: u32,
+    levels: u32,
     texts: &mut T,
     table: &TreeTable<'d>,
     listed: &Option<Unread<'d>>,
 ) -> Result<Option<Unread<'d>>, Fault>
-    ensures unread { IfOk result (λ o. option_map unread_view listed.now ≡ first_kept None (unread_listed (T.relations texts.old) None (document_seen document.now) (document_tree (T.relations texts.old) (document_seen document.now) depth))
-        → option_map unread_view o ≡ first_kept None (unread_listed (T.relations texts.old) (Some (table_view table.now)) (document_seen document.now) (document_tree (T.relations texts.old) (document_seen document.now) depth))) }
-    ensures refused { IfErr result (λ f. RefusesAll (T.relations texts.old) (document_seen document.now) depth (T.faults texts.old) (T.faults texts.new) (document_tree (T.relations texts.old) (document_seen document.now) depth) (fault_view f)) }
+    requires { merges_view merges.now.items ≡ merges_in (document_tree (T.relations texts.old) (document_seen document.now) depth levels) }
+    ensures unread { IfOk result (λ o. option_map unread_view listed.now ≡ first_kept None (unread_listed (T.relations texts.old) None (document_seen document.now) (document_tree (T.relations texts.old) (document_seen document.now) depth levels))
+        → option_map unread_view o ≡ first_kept None (unread_listed (T.relations texts.old) (Some (table_view table.now)) (document_seen document.now) (document_tree (T.relations texts.old) (document_seen document.now) depth levels))) }
+    ensures refused { IfErr result (λ f. Refuses (T.relations texts.old) (document_seen document.now) depth levels (T.faults texts.old) (T.faults texts.new) (document_tree (T.relations texts.old) (document_seen document.now) depth levels) (fault_view f)) }
     ensures keeps { T.relations texts.new ≡ T.relations texts.old }
     ensures counts { T.faults texts.old ≤ T.faults texts.new }
 {
     match listed {
-        Some(_) => unread_by_table(alloc, document, depth, texts, table),
+        Some(_) => unread_by_table(alloc, document, merges, depth, levels, texts, table),
         None => Ok(None),
     }
 }
@@ -121,50 +153,39 @@ fn first_unread<'d, T: Texts>(
 fn unread_by_table<'d, T: Texts>(
     alloc: Global,
     document: &'d Document,
+    merges: &'d Vec<Merge>,
     depth: u32,
+    levels: u32,
     texts: &mut T,
     table: &TreeTable<'d>,
 ) -> Result<Option<Unread<'d>>, Fault>
-    ensures unread { IfOk result (λ o. option_map unread_view o ≡ first_kept None (unread_listed (T.relations texts.old) (Some (table_view table.now)) (document_seen document.now) (document_tree (T.relations texts.old) (document_seen document.now) depth))) }
-    ensures refused { IfErr result (λ f. RefusesAll (T.relations texts.old) (document_seen document.now) depth (T.faults texts.old) (T.faults texts.new) (document_tree (T.relations texts.old) (document_seen document.now) depth) (fault_view f)) }
+    requires { merges_view merges.now.items ≡ merges_in (document_tree (T.relations texts.old) (document_seen document.now) depth levels) }
+    ensures unread { IfOk result (λ o. option_map unread_view o ≡ first_kept None (unread_listed (T.relations texts.old) (Some (table_view table.now)) (document_seen document.now) (document_tree (T.relations texts.old) (document_seen document.now) depth levels))) }
+    ensures refused { IfErr result (λ f. Refuses (T.relations texts.old) (document_seen document.now) depth levels (T.faults texts.old) (T.faults texts.new) (document_tree (T.relations texts.old) (document_seen document.now) depth levels) (fault_view f)) }
     ensures keeps { T.relations texts.new ≡ T.relations texts.old }
     ensures counts { T.faults texts.old ≤ T.faults texts.new }
 {
-    let mut kept = nothing_kept(alloc, Some(table));
-    table_with(alloc, document, depth, texts, &mut kept)?;
+    let mut kept = nothing_kept(alloc, Some(table), merges);
+    table_with(alloc, document, depth, levels, texts, &mut kept)?;
     Ok(kept.values.unread)
 }
 
-fn keyword_of(under_defs: bool) -> &'static str
-    ensures { result.now ≡ definition_word under_defs }
-{
-    if under_defs { "$defs" } else { "definitions" }
-}
-
-fn stands_under_defs(alloc: Global, document: &Document, name: &str) -> Result<bool, AllocError>
-    ensures { IfOk result (λ b. b ≡ is_under_defs (document_seen document.now) name.now) }
-{
-    let keyword = Location::root(alloc).child(alloc, "$defs")?;
-    let place = keyword.child(alloc, name)?;
-    Ok(document.schema_at(&place).is_some())
-}
-
-// Where the definition of a name stands.
-fn definition_place(alloc: Global, document: &Document, name: &str) -> Result<Location, AllocError>
-    ensures { IfOk result (λ l. l ≡ definition_word (is_under_defs (document_seen document.now) name.now) ∷ name.now ∷ []) }
-{
-    let keyword = keyword_of(stands_under_defs(alloc, document, name)?);
-    let owner = Location::root(alloc).child(alloc, keyword)?;
-    let place = owner.child(alloc, name)?;
-    Ok(place)
-}
-
-fn definition_start(alloc: Global, document: &Document, name: &str) -> Result<Location, Fault>
-    ensures place { IfOk result (λ l. l ≡ definition_word (is_under_defs (document_seen document.now) name.now) ∷ name.now ∷ []) }
+fn start_of_definition(alloc: Global, document: &Document, name: &str) -> Result<Start, Fault>
+    ensures place { IfOk result (λ t. (h : Handed) → spot_of t [] h ≡ record (record { handed = Some name.now; path = definition_word (is_under_defs (document_seen document.now) name.now) ∷ name.now ∷ []; walk = (definition_word (is_under_defs (document_seen document.now) name.now) ∷ name.now ∷ []) ∷ []; in_made = false }) { handed = h }) }
     ensures memory { IfErr result (λ f. fault_view f ≡ memory) }
 {
-    match definition_place(alloc, document, name) {
-        Ok(place) => Ok(place),
+    match definition_start(alloc, document, name) {
+        Ok(start) => Ok(start),
+        Err(_) => Err(Fault::Memory),
+    }
+}
+
+fn start_of_root(alloc: Global) -> Result<Start, Fault>
+    ensures place { IfOk result (λ t. (h : Handed) → spot_of t [] h ≡ record { handed = h; path = []; walk = root_walk; in_made = false }) }
+    ensures memory { IfErr result (λ f. fault_view f ≡ memory) }
+{
+    match root_start(alloc) {
+        Ok(start) => Ok(start),
         Err(_) => Err(Fault::Memory),
     }
 }
@@ -186,15 +207,17 @@ pub fn tree_at<'d, T: Texts>(
     alloc: Global,
     document: &'d Document,
     depth: u32,
+    levels: u32,
     texts: &mut T,
     kept: &mut Kept<'d, '_, '_>,
-    start: &Location,
+    start: &Start,
     name: Option<&'d str>,
     schema: &'d Schema,
 ) -> Result<Tree<'d>, Fault>
-    ensures entry { IfOk result (λ t. tree_view t ≡ raw_entry (T.relations texts.old) (document_seen document.now) (suc depth) (option_map (λ n. n.now) name.entry) (schema_view schema.now)) }
-    ensures told { OnOk result (IsTold (T.relations texts.old) (document_seen document.now) depth (tree_of (T.relations texts.old) (document_seen document.now) (suc depth) (option_map (λ n. n.now) name.entry) start.now (schema_view schema.now)) (kept_view kept.old) (kept_view kept.new)) }
-    ensures refused { IfErr result (λ f. Refuses (T.relations texts.old) (document_seen document.now) depth start.now (T.faults texts.old) (T.faults texts.new) (tree_of (T.relations texts.old) (document_seen document.now) (suc depth) (option_map (λ n. n.now) name.entry) start.now (schema_view schema.now)) (fault_view f)) }
+    requires { Begins (kept_view kept.old).merges (merges_in (tree_nodes (T.relations texts.old) (document_seen document.now) depth levels (spot_of start.now [] (option_map (λ n. n.now) name)) (schema_view schema.now))) }
+    ensures entry { IfOk result (λ t. tree_view t ≡ entry_at (T.relations texts.old) (document_seen document.now) depth levels (spot_of start.now [] (option_map (λ n. n.now) name.entry)) (schema_view schema.now)) }
+    ensures told { OnOk result (IsTold (T.relations texts.old) (document_seen document.now) depth levels (tree_nodes (T.relations texts.old) (document_seen document.now) depth levels (spot_of start.now [] (option_map (λ n. n.now) name.entry)) (schema_view schema.now)) (kept_view kept.old) (kept_view kept.new)) }
+    ensures refused { IfErr result (λ f. Refuses (T.relations texts.old) (document_seen document.now) depth levels (T.faults texts.old) (T.faults texts.new) (tree_nodes (T.relations texts.old) (document_seen document.now) depth levels (spot_of start.now [] (option_map (λ n. n.now) name.entry)) (schema_view schema.now)) (fault_view f)) }
     ensures keeps { T.relations texts.new ≡ T.relations texts.old }
     ensures counts { T.faults texts.old ≤ T.faults texts.new }
 {
@@ -206,7 +229,7 @@ pub fn tree_at<'d, T: Texts>(
     };
     let trail = Vec::new(alloc);
     let source = Source::Written(schema);
-    let tree = convert(&scope, texts, kept, &trail, depth, MOST_MADE, name, &source)?;
+    let tree = convert(&scope, texts, kept, &trail, levels, name, &source)?;
     Ok(tree)
 }
 
@@ -214,22 +237,25 @@ fn definition_item<'d, T: Texts>(
     alloc: Global,
     document: &'d Document,
     depth: u32,
+    levels: u32,
     texts: &mut T,
     kept: &mut Kept<'d, '_, '_>,
     name: &'d str,
     schema: &'d Schema,
 ) -> Result<Tree<'d>, Fault>
-    ensures item { IfOk result (λ t. item_in (tree_view t) ≡ as_item_of name.now (raw_entry (T.relations texts.old) (document_seen document.now) (suc depth) (Some name.now) (schema_view schema.now))) }
-    ensures told { OnOk result (IsTold (T.relations texts.old) (document_seen document.now) depth (tree_of (T.relations texts.old) (document_seen document.now) (suc depth) (Some name.now) (definition_word (is_under_defs (document_seen document.now) name.now) ∷ name.now ∷ []) (schema_view schema.now)) (kept_view kept.old) (kept_view kept.new)) }
-    ensures refused { IfErr result (λ f. Refuses (T.relations texts.old) (document_seen document.now) depth (definition_word (is_under_defs (document_seen document.now) name.now) ∷ name.now ∷ []) (T.faults texts.old) (T.faults texts.new) (tree_of (T.relations texts.old) (document_seen document.now) (suc depth) (Some name.now) (definition_word (is_under_defs (document_seen document.now) name.now) ∷ name.now ∷ []) (schema_view schema.now)) (fault_view f)) }
+    requires { Begins (kept_view kept.old).merges (merges_in (tree_nodes (T.relations texts.old) (document_seen document.now) depth levels (record { handed = Some name.now; path = definition_word (is_under_defs (document_seen document.now) name.now) ∷ name.now ∷ []; walk = (definition_word (is_under_defs (document_seen document.now) name.now) ∷ name.now ∷ []) ∷ []; in_made = false }) (schema_view schema.now))) }
+    ensures item { IfOk result (λ t. item_in (tree_view t) ≡ as_item_of name.now (entry_at (T.relations texts.old) (document_seen document.now) depth levels (record { handed = Some name.now; path = definition_word (is_under_defs (document_seen document.now) name.now) ∷ name.now ∷ []; walk = (definition_word (is_under_defs (document_seen document.now) name.now) ∷ name.now ∷ []) ∷ []; in_made = false }) (schema_view schema.now))) }
+    ensures told { OnOk result (IsTold (T.relations texts.old) (document_seen document.now) depth levels (tree_nodes (T.relations texts.old) (document_seen document.now) depth levels (record { handed = Some name.now; path = definition_word (is_under_defs (document_seen document.now) name.now) ∷ name.now ∷ []; walk = (definition_word (is_under_defs (document_seen document.now) name.now) ∷ name.now ∷ []) ∷ []; in_made = false }) (schema_view schema.now)) (kept_view kept.old) (kept_view kept.new)) }
+    ensures refused { IfErr result (λ f. Refuses (T.relations texts.old) (document_seen document.now) depth levels (T.faults texts.old) (T.faults texts.new) (tree_nodes (T.relations texts.old) (document_seen document.now) depth levels (record { handed = Some name.now; path = definition_word (is_under_defs (document_seen document.now) name.now) ∷ name.now ∷ []; walk = (definition_word (is_under_defs (document_seen document.now) name.now) ∷ name.now ∷ []) ∷ []; in_made = false }) (schema_view schema.now)) (fault_view f)) }
     ensures keeps { T.relations texts.new ≡ T.relations texts.old }
     ensures counts { T.faults texts.old ≤ T.faults texts.new }
 {
-    let start = definition_start(alloc, document, name)?;
+    let start = start_of_definition(alloc, document, name)?;
     let tree = tree_at(
         alloc,
         document,
         depth,
+        levels,
         texts,
         kept,
         &start,
@@ -245,12 +271,14 @@ pub fn definition_targets<'d, T: Texts>(
     alloc: Global,
     document: &'d Document,
     depth: u32,
+    levels: u32,
     texts: &mut T,
     kept: &mut Kept<'d, '_, '_>,
 ) -> Result<Vec<(Target, Tree<'d>)>, Fault>
-    ensures targets { IfOk result (λ ts. map target_entry ts.items ≡ map (definition_target (T.relations texts.old) (document_seen document.now) depth) (document_seen document.now).definitions) }
-    ensures told { OnOk result (IsTold (T.relations texts.old) (document_seen document.now) depth (definition_trees (T.relations texts.old) (document_seen document.now) depth (document_seen document.now).definitions) (kept_view kept.old) (kept_view kept.new)) }
-    ensures refused { IfErr result (λ f. RefusesAll (T.relations texts.old) (document_seen document.now) depth (T.faults texts.old) (T.faults texts.new) (definition_trees (T.relations texts.old) (document_seen document.now) depth (document_seen document.now).definitions) (fault_view f)) }
+    requires { Begins (kept_view kept.old).merges (merges_in (definition_trees (T.relations texts.old) (document_seen document.now) depth levels (document_seen document.now).definitions)) }
+    ensures targets { IfOk result (λ ts. map target_entry ts.items ≡ map (definition_target (T.relations texts.old) (document_seen document.now) depth levels) (document_seen document.now).definitions) }
+    ensures told { OnOk result (IsTold (T.relations texts.old) (document_seen document.now) depth levels (definition_trees (T.relations texts.old) (document_seen document.now) depth levels (document_seen document.now).definitions) (kept_view kept.old) (kept_view kept.new)) }
+    ensures refused { IfErr result (λ f. Refuses (T.relations texts.old) (document_seen document.now) depth levels (T.faults texts.old) (T.faults texts.new) (definition_trees (T.relations texts.old) (document_seen document.now) depth levels (document_seen document.now).definitions) (fault_view f)) }
     ensures keeps { T.relations texts.new ≡ T.relations texts.old }
     ensures counts { T.faults texts.old ≤ T.faults texts.new }
 {
@@ -258,7 +286,7 @@ pub fn definition_targets<'d, T: Texts>(
     let mut names = document.names();
     while let Some(name) = names.next() {
         let schema = body_of(document, name)?;
-        let item = definition_item(alloc, document, depth, texts, kept, name, schema)?;
+        let item = definition_item(alloc, document, depth, levels, texts, kept, name, schema)?;
         push_definition(alloc, &mut targets, name, item)?;
     }
     Ok(targets)
@@ -298,22 +326,25 @@ pub fn root_tree<'d, T: Texts>(
     alloc: Global,
     document: &'d Document,
     depth: u32,
+    levels: u32,
     texts: &mut T,
     kept: &mut Kept<'d, '_, '_>,
 ) -> Result<Tree<'d>, Fault>
-    ensures entry { IfOk result (λ t. tree_view t ≡ root_entry (T.relations texts.old) (document_seen document.now) depth) }
-    ensures told { OnOk result (IsTold (T.relations texts.old) (document_seen document.now) depth (root_tree_of (T.relations texts.old) (document_seen document.now) depth) (kept_view kept.old) (kept_view kept.new)) }
-    ensures refused { IfErr result (λ f. Refuses (T.relations texts.old) (document_seen document.now) depth [] (T.faults texts.old) (T.faults texts.new) (root_tree_of (T.relations texts.old) (document_seen document.now) depth) (fault_view f)) }
+    requires { Begins (kept_view kept.old).merges (merges_in (tree_nodes (T.relations texts.old) (document_seen document.now) depth levels (root_spot (T.relations texts.old) (document_seen document.now) depth levels) (document_seen document.now).root)) }
+    ensures entry { IfOk result (λ t. tree_view t ≡ root_entry (T.relations texts.old) (document_seen document.now) depth levels) }
+    ensures told { OnOk result (IsTold (T.relations texts.old) (document_seen document.now) depth levels (tree_nodes (T.relations texts.old) (document_seen document.now) depth levels (root_spot (T.relations texts.old) (document_seen document.now) depth levels) (document_seen document.now).root) (kept_view kept.old) (kept_view kept.new)) }
+    ensures refused { IfErr result (λ f. Refuses (T.relations texts.old) (document_seen document.now) depth levels (T.faults texts.old) (T.faults texts.new) (tree_nodes (T.relations texts.old) (document_seen document.now) depth levels (root_spot (T.relations texts.old) (document_seen document.now) depth levels) (document_seen document.now).root) (fault_view f)) }
     ensures keeps { T.relations texts.new ≡ T.relations texts.old }
     ensures counts { T.faults texts.old ≤ T.faults texts.new }
 {
-    let start = Location::root(alloc);
+    let start = start_of_root(alloc)?;
     let schema = document.root();
     let name = root_name(schema);
     let tree = tree_at(
         alloc,
         document,
         depth,
+        levels,
         texts,
         kept,
         &start,

@@ -8,16 +8,16 @@ ghost use Rattle.row_types.specs.View.{row_view, rule_view};
 ghost use Rattle.entry_trees.specs.View.{table_view, tree_view};
 ghost use Rattle.row_trees.specs.Build.{built, first_of};
 ghost use Rattle.convert_trees.specs.Keeping.{kept_view, values_view, with_before, with_before_if};
-ghost use Rattle.convert_trees.specs.Places.{place_at};
+ghost use Rattle.merged_rows.specs.Starts.{path_by};
 ghost use Rattle.convert_trees.specs.Told.{NoAnswer};
 ghost use Rattle.scalar_takes.specs.Unread.{first_of as first_value};
 ghost use Rattle.convert_trees.specs.Unread.{rule_in, unread_by as unread_by_entry, unread_of, unread_values};
 
 use crate::faults::text_fault;
 use crate::keeping::{Kept, Unread, Values};
-use crate::places::location_of;
 use crate::scope::Scope;
 use entry_trees::{Tree, TreeTable};
+use merged_rows::location_of;
 use row_types::{Row, RowRule, Steps};
 use scalar_takes::{first_listed_by, first_unread_by};
 use schema_tree::{Fault, Texts};
@@ -49,7 +49,7 @@ fn rule_of<'d>(row: &Row<'d>) -> Option<RowRule<'d>>
 }
 
 fn place_of(scope: &Scope<'_, '_>, trail: &Vec<Steps<'_>>) -> Result<Location, Fault>
-    ensures place { IfOk result (λ l. l ≡ place_at scope.now.start.now trail.now.items) }
+    ensures place { IfOk result (λ l. l ≡ path_by scope.now.start.now trail.now.items) }
     ensures memory { IfErr result (λ f. fault_view f ≡ memory) }
 {
     match location_of(scope.alloc, scope.start, trail) {
@@ -149,7 +149,8 @@ fn keep_unread<'d, T: Texts>(
     trees: &VecDeque<Tree<'d>>,
 ) -> Result<(), Fault>
     ensures notes { OnOk result ((kept_view kept.new).notes ≡ (kept_view kept.old).notes) }
-    ensures values { OnOk result ((name : List ℕ) → (kept_view kept.new).values ≡ with_before (unread_of (T.relations texts.old) (kept_view kept.old).values.known (place_at scope.now.start.now trail.now.items) (row_view (T.relations texts.old) row.now) (built name (row_view (T.relations texts.old) row.now) (map tree_view trees.now.items))) (kept_view kept.old).values) }
+    ensures merges { OnOk result ((kept_view kept.new).merges ≡ (kept_view kept.old).merges) }
+    ensures values { OnOk result ((name : List ℕ) → (kept_view kept.new).values ≡ with_before (unread_of (T.relations texts.old) (kept_view kept.old).values.known (path_by scope.now.start.now trail.now.items) (row_view (T.relations texts.old) row.now) (built name (row_view (T.relations texts.old) row.now) (map tree_view trees.now.items))) (kept_view kept.old).values) }
     ensures refused { IfErr result (λ f. NoAnswer (T.faults texts.old) (T.faults texts.new) (fault_view f)) }
     ensures keeps { T.relations texts.new ≡ T.relations texts.old }
     ensures counts { T.faults texts.old ≤ T.faults texts.new }
@@ -175,7 +176,8 @@ pub fn keep_unless<'d, T: Texts>(
     trees: &VecDeque<Tree<'d>>,
 ) -> Result<(), Fault>
     ensures notes { OnOk result ((kept_view kept.new).notes ≡ (kept_view kept.old).notes) }
-    ensures values { OnOk result ((name : List ℕ) → (kept_view kept.new).values ≡ with_before_if had (unread_of (T.relations texts.old) (kept_view kept.old).values.known (place_at scope.now.start.now trail.now.items) (row_view (T.relations texts.old) row.now) (built name (row_view (T.relations texts.old) row.now) (map tree_view trees.now.items))) (kept_view kept.old).values) }
+    ensures merges { OnOk result ((kept_view kept.new).merges ≡ (kept_view kept.old).merges) }
+    ensures values { OnOk result ((name : List ℕ) → (kept_view kept.new).values ≡ with_before_if had (unread_of (T.relations texts.old) (kept_view kept.old).values.known (path_by scope.now.start.now trail.now.items) (row_view (T.relations texts.old) row.now) (built name (row_view (T.relations texts.old) row.now) (map tree_view trees.now.items))) (kept_view kept.old).values) }
     ensures refused { IfErr result (λ f. NoAnswer (T.faults texts.old) (T.faults texts.new) (fault_view f)) }
     ensures keeps { T.relations texts.new ≡ T.relations texts.old }
     ensures counts { T.faults texts.old ≤ T.faults texts.new }

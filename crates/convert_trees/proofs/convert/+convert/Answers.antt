@@ -1,118 +1,206 @@
-use Rattle.std.specs.Prelude.{None, IfOk, IfErr, OnOk}
-use Rattle.std.proofs.Common.{◌≡◌, List, ◌++◌, ◌-◌, map, refl, sym, ap, ◌∙◌, subst, arith, rules, option_map}
+use Rattle.std.specs.Prelude.{None, Some, is_some}
+use Rattle.std.proofs.Common.{◌≡◌, List, [], ◌∷◌, ◌++◌, ◌-◌, ◌+◌, ◌*◌, ◌<◌, map, true, refl, sym, ap, ◌∙◌, subst, arith, rules, option_map}
+use Rattle.schema_defs.specs.Texts.{Relations}
+use Rattle.schema_types.specs.View.{schema_view}
 use Rattle.schema_tree.specs.Document.{view as document_seen}
 use Rattle.schema_tree.specs.Fault.{fault_view}
-use Rattle.convert_defs.specs.Convert.{Handed, named_by, tree}
+use Rattle.convert_defs.specs.Convert.{Handed, named_by}
+use Rattle.convert_defs.specs.Row.{Part, row_parts}
 use Rattle.entry_trees.specs.View.{tree_view}
-use Rattle.row_types.specs.declared.part.PartKind.{PartKind}
+use Rattle.convert_walks.specs.Spot.{part_spot}
+use Rattle.convert_walks.specs.Told.{merge_note, placed_note}
+use Rattle.convert_walks.specs.Tree.{Standing as StandingOf, entry_at, tree_at}
+use Rattle.merged_rows.specs.Starts.{path_by, spot_of}
+use Rattle.merge_parts.specs.View.{notes_view as merge_notes_view}
+use Rattle.row_merges.specs.Merges.{end_view, merge_of_row, merge_view, merges_in, stands}
+use Rattle.row_types.specs.declared.part.Steps.{Steps}
 use Rattle.row_types.specs.Given.{source_view}
-use Rattle.row_types.specs.View.{finding_view, part_by, part_view, row_view}
+use Rattle.row_types.specs.View.{branch_view, finding_view, part_view, row_view}
 use Rattle.row_trees.specs.Build.{built}
 use Rattle.convert_trees.specs.Keeping.{kept_view}
-use Rattle.convert_trees.specs.Places.{place_at, trail_count}
-use Rattle.convert_trees.proofs.Here.{if_err, none_from, want_refuses, parts_here, told_here, entry_here, told_moved, refuses_moved, deep_here, on_refuses, on_told, inner_refuses, inner_told}
-use Rattle.convert_trees.proofs.Entering.{entered, passed}
-use Rattle.row_types.specs.View.{steps_view}
-use Rattle.schema_defs.specs.Texts.{Relations}
-use Rattle.convert_defs.specs.Row.{Part, row_parts}
-use Rattle.convert_trees.specs.Listed.{listed_view}
-use Rattle.convert_trees.specs.Nodes.{converted, part_nodes, parts_nodes}
-use Rattle.convert_trees.specs.Told.{IsTold, Refuses, by_none}
+use Rattle.row_merges.specs.Listed.{listed_view}
+use Rattle.convert_trees.specs.Told.{Begins, IsTold, IsToldOf, Refuses, by_none}
+use Rattle.convert_trees.proofs.Ends.{if_err, none_from}
+use Rattle.convert_trees.proofs.Here.{begins_on, deep_on, entry_on, parts_here, plain_begins, plain_entry, refuses_on, told_here, told_on}
+use Rattle.convert_trees.proofs.Merged.{merge_refuses, merging, next_is, standing_begins, standing_entry_is, standing_refuses, standing_told}
+use Rattle.convert_trees.proofs.Parts.{all_nodes, entries_all, entries_next, part_begins, part_entry, part_refuses, told_all, told_next}
 use Rattle.convert_trees.proofs.Rows.{had_seen, told_of_row}
-use Rattle.convert_trees.proofs.Parts.{entries_all, entries_next, part_refuses, told_all, told_next}
-use Rattle.convert_trees.proofs.Telling.{passed_none}
+use Rattle.convert_trees.proofs.Spots.{schema_of_part}
+use Rattle.convert_trees.proofs.Telling.{passed_none, refuses_from, want_refuses}
 use Rattle.convert_trees.proofs.convert.+convert.Goals as goal
+
+-- ---- by so many levels
 
 pub convert-returns-clause-entry : goal.convert-returns-clause-entry
 convert-returns-clause-entry g t c =
     let r = g.T.Texts.relations c.args.texts.now in
-    let r' = g.T.Texts.relations c.checked.new.texts in
     let d = document_seen c.args.scope.now.document.now in
-    let s = source_view c.args.source.now in
     let h = option_map (λ n. n.now) c.args.handed in
-    let row = c.in_ok-finding.finding.row in
-    let es = map (converted r' d c.args.left (c.args.made - 1) h) (row_parts (row_view r' row)) in
-    entry_here r d c.args.scope.now.depth c.args.left c.args.made h (place_at c.args.scope.now.start.now c.args.trail.now.items) s (finding_view r c.in_ok-finding.finding) r' (tree_view c.in_ok-tree.tree) es (row_parts (row_view r' row))
-    (λ k. absurd (omega (arith, k, c.if-made-eq0.false))) (c.in_ok-finding.ensures.finding r)
-    (ap (λ (r : Relations). row_parts (row_view r row)) c.in_ok-finding.ensures.keeps)
-    c.in_ok-finding.ensures.keeps refl
-    (c.in_ok-tree.ensures.entry ∙ ap (λ (r : Relations). built (named_by h s) (row_view r row) es) c.in_ok-finding.ensures.keeps)
+    let o = spot_of c.args.scope.now.start.now c.args.trail.now.items h in
+    entry_on r d c.args.scope.now.depth c.args.levels o (source_view c.args.source.now) (λ k. absurd (omega (arith, k, c.if-levels-eq0.false))) (tree_view c.in_ok-tree.tree) c.in_ok-tree.ensures.entry
 
 pub convert-returns-clause-told : goal.convert-returns-clause-told
 convert-returns-clause-told g t c =
     let r = g.T.Texts.relations c.args.texts.now in
-    let r' = g.T.Texts.relations c.checked.new.texts in
     let d = document_seen c.args.scope.now.document.now in
-    let s = source_view c.args.source.now in
     let h = option_map (λ n. n.now) c.args.handed in
-    let row = c.in_ok-finding.finding.row in
-    told_here r d c.args.scope.now.depth c.args.left c.args.made h (place_at c.args.scope.now.start.now c.args.trail.now.items) s (finding_view r c.in_ok-finding.finding) r'
-    (kept_view c.args.kept.now) (kept_view c.checked.new.kept) (kept_view c.convert_found.new.kept) (row_view r' row) (tree_view c.in_ok-tree.tree)
-    (λ k. absurd (omega (arith, k, c.if-made-eq0.false))) (c.in_ok-finding.ensures.finding r) (c.in_ok-finding.ensures.fine d) c.in_ok-finding.ensures.unstated c.in_ok-finding.ensures.branches
-    c.in_ok-finding.ensures.notes c.in_ok-finding.ensures.values
-    (ap (λ (r : Relations). row_view r row) c.in_ok-finding.ensures.keeps)
-    c.in_ok-finding.ensures.keeps (convert-returns-clause-entry g t c) c.in_ok-tree.ensures.told
+    let o = spot_of c.args.scope.now.start.now c.args.trail.now.items h in
+    told_on r d c.args.scope.now.depth c.args.levels o (source_view c.args.source.now) (λ k. absurd (omega (arith, k, c.if-levels-eq0.false))) _ _ c.in_ok-tree.ensures.told
 
-pub convert-returns-then-made-eq0-clause-refused : goal.convert-returns-then-made-eq0-clause-refused
-convert-returns-then-made-eq0-clause-refused g t c = want_refuses _ _ _ _ _ _ _ _ refl
+pub convert-returns-then-levels-eq0-clause-refused : goal.convert-returns-then-levels-eq0-clause-refused
+convert-returns-then-levels-eq0-clause-refused g t c = want_refuses _ _ _ _ _ _ _ _ refl
+
+pub convert-returns-then-is_deep-clause-refused : goal.convert-returns-then-is_deep-clause-refused
+convert-returns-then-is_deep-clause-refused g t c =
+    let r = g.T.Texts.relations c.args.texts.now in
+    let d = document_seen c.args.scope.now.document.now in
+    let h = option_map (λ n. n.now) c.args.handed in
+    let o = spot_of c.args.scope.now.start.now c.args.trail.now.items h in
+    deep_on r d c.args.scope.now.depth c.args.levels o (source_view c.args.source.now) (λ k. absurd (omega (arith, k, c.if-levels-eq0.false))) _ _ _ (sym c.is_deep.ensures ∙ c.if-is_deep.true) c.too_deep.ensures
 
 pub convert-returns-in_err-finding-clause-refused : goal.convert-returns-in_err-finding-clause-refused
 convert-returns-in_err-finding-clause-refused g t c =
-    if_err c.from_residual.result c.in_err-finding.field-0.0 _ c.from_residual.ensures.1
-    (c.in_err-finding.ensures.refused c.args.made (option_map (λ n. n.now) c.args.handed) (λ k. absurd (omega (arith, k, c.if-made-eq0.false))))
+    if_err c.from_residual.result c.in_err-finding.field-0.0 _ c.from_residual.ensures.1 (want_refuses _ _ _ _ _ _ _ _ c.in_err-finding.ensures.memory)
 
 pub convert-returns-in_err-tree-clause-refused : goal.convert-returns-in_err-tree-clause-refused
 convert-returns-in_err-tree-clause-refused g t c =
     let r = g.T.Texts.relations c.args.texts.now in
-    let r' = g.T.Texts.relations c.checked.new.texts in
     let d = document_seen c.args.scope.now.document.now in
-    let row = c.in_ok-finding.finding.row in
+    let h = option_map (λ n. n.now) c.args.handed in
+    let o = spot_of c.args.scope.now.start.now c.args.trail.now.items h in
     if_err c.from_residual-in_err-tree.result c.in_err-tree.field-0.0 _ c.from_residual-in_err-tree.ensures.1
-    (parts_here r d c.args.scope.now.depth c.args.left c.args.made (option_map (λ n. n.now) c.args.handed) (place_at c.args.scope.now.start.now c.args.trail.now.items) (source_view c.args.source.now) (finding_view r c.in_ok-finding.finding)
-    c.args.scope.now.start.now _ r' _ _ _ (row_parts (row_view r' row)) (λ k. absurd (omega (arith, k, c.if-made-eq0.false))) (c.in_ok-finding.ensures.finding r) (c.in_ok-finding.ensures.fine d)
-    c.in_ok-finding.ensures.unstated c.in_ok-finding.ensures.branches (ap (λ (r : Relations). row_parts (row_view r row)) c.in_ok-finding.ensures.keeps) c.in_ok-finding.ensures.keeps c.in_ok-finding.ensures.counts c.in_err-tree.ensures.refused)
+    (refuses_on r d c.args.scope.now.depth c.args.levels o (source_view c.args.source.now) (λ k. absurd (omega (arith, k, c.if-levels-eq0.false))) _ _ _ c.in_err-tree.ensures.refused)
 
--- ---- what was found
-
-pub convert_found-returns-clause-entry : goal.convert_found-returns-clause-entry
-convert_found-returns-clause-entry g t c =
-    c.in_ok-tree.ensures.answer ∙ (λ i. built (c.named-name.ensures i) (row_view (c.in_ok-trees.ensures.keeps i) c.args.finding.now.row) (c.in_ok-trees.ensures.entries i))
-
-pub convert_found-returns-clause-told : goal.convert_found-returns-clause-told
-convert_found-returns-clause-told g t c =
-    let r = g.T.Texts.relations c.args.texts.now in
-    let d = document_seen c.args.scope.now.document.now in
-    let most = c.args.scope.now.depth in
-    told_of_row r d most (place_at c.args.scope.now.start.now c.args.trail.now.items) c.args.finding.now.row (tree_view c.in_ok-tree.tree) _
-    (kept_view c.args.kept.now) (kept_view c.convert_row.new.kept) (kept_view c.finished.new.kept) (g.T.Texts.relations c.convert_row.new.texts) c.is_some-had.result
-    c.in_ok-trees.ensures.keeps (had_seen c.args.kept.now.values.unread c.is_some-had.result c.is_some-had.ensures) c.in_ok-trees.ensures.told c.in_ok-tree.ensures.notes c.in_ok-tree.ensures.values
-
-pub convert_found-returns-in_err-trees-clause-refused : goal.convert_found-returns-in_err-trees-clause-refused
-convert_found-returns-in_err-trees-clause-refused g t c =
-    if_err c.from_residual.result c.in_err-trees.field-0.0 _ c.from_residual.ensures.1 c.in_err-trees.ensures.refused
-
-pub convert_found-returns-in_err-tree-clause-refused : goal.convert_found-returns-in_err-tree-clause-refused
-convert_found-returns-in_err-tree-clause-refused g t c =
-    if_err c.from_residual-in_err-tree.result c.in_err-tree.field-0.0 _ c.from_residual-in_err-tree.ensures.1
-    (by_none (none_from _ _ _ _ c.in_ok-trees.ensures.counts c.in_err-tree.ensures.refused))
-
--- ---- the parts of a row
-
-pub convert_row-returns-clause-entries : goal.convert_row-returns-clause-entries
-convert_row-returns-clause-entries g t c =
+pub convert-convert_found-requires : goal.convert-convert_found-requires
+convert-convert_found-requires g t c =
     let r = g.T.Texts.relations c.args.texts.now in
     let d = document_seen c.args.scope.now.document.now in
     let h = option_map (λ n. n.now) c.args.handed in
-    c.in_ok-trees.ensures.entries ∙ ap (map (converted r d c.args.left c.args.made h)) (ap listed_view c.deref.ensures.value ∙ c.in_ok-parts.ensures.parts r)
+    let o = spot_of c.args.scope.now.start.now c.args.trail.now.items h in
+    let e : c.args.levels * 10 ≡ t = c.decreases in
+    let k : (c.args.levels - 1) * 10 + 7 < t = omega (arith, e, c.if-levels-eq0.false) in
+    λ κs within. (k, (within, (c.in_ok-finding.ensures.finding, (sym c.is_deep.ensures ∙ c.if-is_deep.false, begins_on r d c.args.scope.now.depth c.args.levels o (source_view c.args.source.now) (λ k. absurd (omega (arith, k, c.if-levels-eq0.false))) (kept_view c.args.kept.now).merges c.requires))))
+
+-- ---- by what was found
+
+pub convert_found-convert_merged-requires : goal.convert_found-convert_merged-requires
+convert_found-convert_merged-requires g t c =
+    let e : c.args.levels * 10 + 7 ≡ t = c.decreases in
+    let k : c.args.levels * 10 + 6 < t = omega (arith, e) in
+    λ κs within. (k, (within, (c.requires.finding, (c.requires.walk, ((λ r. ap is_some (sym (c.in-Some.ensures r))), c.requires.begins)))))
+
+pub convert_found-convert_plain-requires : goal.convert_found-convert_plain-requires
+convert_found-convert_plain-requires g t c =
+    let e : c.args.levels * 10 + 7 ≡ t = c.decreases in
+    let k : c.args.levels * 10 + 6 < t = omega (arith, e) in
+    λ κs within. (k, (within, (c.requires.finding, (c.requires.walk, ((λ r. sym (c.in-None.ensures r)), c.requires.begins)))))
+
+-- ---- a row that doesn't merge
+
+pub convert_plain-convert_row-requires : goal.convert_plain-convert_row-requires
+convert_plain-convert_row-requires g t c =
+    let r = g.T.Texts.relations c.args.texts.now in
+    let d = document_seen c.args.scope.now.document.now in
+    let s = source_view c.args.source.now in
+    let h = option_map (λ n. n.now) c.args.handed in
+    let o = spot_of c.args.scope.now.start.now c.args.trail.now.items h in
+    let row = c.args.finding.now.row in
+    let ms = map branch_view c.args.finding.now.branches.items in
+    let e : c.args.levels * 10 + 6 ≡ t = c.decreases in
+    let k : c.args.levels * 10 + 5 < t = omega (arith, e) in
+    let parts_first =
+    subst (λ (r : Relations). Begins (kept_view c.checked.new.kept).merges (merges_in (all_nodes r d c.args.scope.now.depth c.args.levels o ms (row_parts (row_view r row))))) (sym c.in_ok-checked.ensures.keeps)
+    (plain_begins r d c.args.scope.now.depth c.args.levels o s (finding_view r c.args.finding.now) (c.requires.finding r) c.requires.walk (c.requires.plain r)
+    (kept_view c.args.kept.now) (kept_view c.checked.new.kept) (c.in_ok-checked.ensures.branches r d h) c.in_ok-checked.ensures.merges c.requires.begins) in
+    λ κs within. (k, (within, parts_first))
+
+pub convert_plain-returns-clause-entry : goal.convert_plain-returns-clause-entry
+convert_plain-returns-clause-entry g t c =
+    let r = g.T.Texts.relations c.args.texts.now in
+    let d = document_seen c.args.scope.now.document.now in
+    let s = source_view c.args.source.now in
+    let h = option_map (λ n. n.now) c.args.handed in
+    let o = spot_of c.args.scope.now.start.now c.args.trail.now.items h in
+    let row = c.args.finding.now.row in
+    let ms = map branch_view c.args.finding.now.branches.items in
+    plain_entry r d c.args.scope.now.depth c.args.levels o s (finding_view r c.args.finding.now) (c.requires.finding r) c.requires.walk (c.requires.plain r) (tree_view c.in_ok-tree.tree)
+    (c.in_ok-tree.ensures.entry
+    ∙ ap (λ (r : Relations). built (named_by h s) (row_view r row) (map (part_entry r d c.args.scope.now.depth c.args.levels o ms) (row_parts (row_view r row)))) c.in_ok-checked.ensures.keeps)
+
+pub convert_plain-returns-clause-told : goal.convert_plain-returns-clause-told
+convert_plain-returns-clause-told g t c =
+    let r = g.T.Texts.relations c.args.texts.now in
+    let d = document_seen c.args.scope.now.document.now in
+    let s = source_view c.args.source.now in
+    let h = option_map (λ n. n.now) c.args.handed in
+    let o = spot_of c.args.scope.now.start.now c.args.trail.now.items h in
+    let row = c.args.finding.now.row in
+    let ms = map branch_view c.args.finding.now.branches.items in
+    told_here r d c.args.scope.now.depth c.args.levels o s (finding_view r c.args.finding.now) (c.requires.finding r) c.requires.walk (c.requires.plain r)
+    (c.in_ok-checked.ensures.fine d) c.in_ok-checked.ensures.unstated (c.in_ok-checked.ensures.branches r d h)
+    (kept_view c.args.kept.now) (kept_view c.checked.new.kept) (kept_view c.convert_row.new.kept) (tree_view c.in_ok-tree.tree)
+    (c.in_ok-checked.ensures.notes h) c.in_ok-checked.ensures.values c.in_ok-checked.ensures.merges (convert_plain-returns-clause-entry g t c)
+    (subst (λ (r : Relations). IsToldOf r d c.args.scope.now.depth c.args.levels o.path (row_view r row) (tree_view c.in_ok-tree.tree) (all_nodes r d c.args.scope.now.depth c.args.levels o ms (row_parts (row_view r row))) (kept_view c.checked.new.kept) (kept_view c.convert_row.new.kept))
+    c.in_ok-checked.ensures.keeps c.in_ok-tree.ensures.told)
+
+pub convert_plain-returns-in_err-checked-clause-refused : goal.convert_plain-returns-in_err-checked-clause-refused
+convert_plain-returns-in_err-checked-clause-refused g t c =
+    let r = g.T.Texts.relations c.args.texts.now in
+    if_err c.from_residual.result c.in_err-checked.field-0.0 _ c.from_residual.ensures.1
+    (c.in_err-checked.ensures.refused c.args.levels (option_map (λ n. n.now) c.args.handed) (c.requires.finding r) (c.requires.plain r) c.requires.walk)
+
+pub convert_plain-returns-in_err-tree-clause-refused : goal.convert_plain-returns-in_err-tree-clause-refused
+convert_plain-returns-in_err-tree-clause-refused g t c =
+    let r = g.T.Texts.relations c.args.texts.now in
+    let d = document_seen c.args.scope.now.document.now in
+    let s = source_view c.args.source.now in
+    let h = option_map (λ n. n.now) c.args.handed in
+    let o = spot_of c.args.scope.now.start.now c.args.trail.now.items h in
+    let row = c.args.finding.now.row in
+    let ms = map branch_view c.args.finding.now.branches.items in
+    if_err c.from_residual-in_err-tree.result c.in_err-tree.field-0.0 _ c.from_residual-in_err-tree.ensures.1
+    (refuses_from r d c.args.scope.now.depth c.args.levels _ _ _ _ _ c.in_ok-checked.ensures.counts
+    (parts_here r d c.args.scope.now.depth c.args.levels o s (finding_view r c.args.finding.now) (c.requires.finding r) c.requires.walk (c.requires.plain r)
+    (c.in_ok-checked.ensures.fine d) c.in_ok-checked.ensures.unstated (c.in_ok-checked.ensures.branches r d h) _ _ _
+    (subst (λ (r : Relations). Refuses r d c.args.scope.now.depth c.args.levels (g.T.Texts.faults c.checked.new.texts) (g.T.Texts.faults c.convert_row.new.texts) (all_nodes r d c.args.scope.now.depth c.args.levels o ms (row_parts (row_view r row))) (fault_view c.in_err-tree.field-0.0))
+    c.in_ok-checked.ensures.keeps c.in_err-tree.ensures.refused)))
+
+-- ---- the row that was checked
+
+pub convert_row-convert_parts-requires : goal.convert_row-convert_parts-requires
+convert_row-convert_parts-requires g t c =
+    let r = g.T.Texts.relations c.args.texts.now in
+    let d = document_seen c.args.scope.now.document.now in
+    let h = option_map (λ n. n.now) c.args.handed in
+    let o = spot_of c.args.scope.now.start.now c.args.trail.now.items h in
+    let ms = map branch_view c.args.finding.now.branches.items in
+    let e : c.args.levels * 10 + 5 ≡ t = c.decreases in
+    let k : c.args.levels * 10 + 4 < t = omega (arith, e) in
+    λ κs within. (k, (within, subst (λ (ps : List Part). Begins (kept_view c.args.kept.now).merges (merges_in (all_nodes r d c.args.scope.now.depth c.args.levels o ms ps))) (sym (ap listed_view c.deref.ensures.value ∙ c.in_ok-parts.ensures.parts r)) c.requires))
+
+pub convert_row-returns-clause-entry : goal.convert_row-returns-clause-entry
+convert_row-returns-clause-entry g t c =
+    let r = g.T.Texts.relations c.args.texts.now in
+    let d = document_seen c.args.scope.now.document.now in
+    let h = option_map (λ n. n.now) c.args.handed in
+    let o = spot_of c.args.scope.now.start.now c.args.trail.now.items h in
+    let ms = map branch_view c.args.finding.now.branches.items in
+    let es = c.in_ok-trees.ensures.entry ∙ ap (map (part_entry r d c.args.scope.now.depth c.args.levels o ms)) (ap listed_view c.deref.ensures.value ∙ c.in_ok-parts.ensures.parts r) in
+    c.in_ok-tree.ensures.answer ∙ (λ i. built (c.named-name.ensures i) (row_view (c.in_ok-trees.ensures.keeps i) c.args.finding.now.row) (es i))
 
 pub convert_row-returns-clause-told : goal.convert_row-returns-clause-told
 convert_row-returns-clause-told g t c =
     let r = g.T.Texts.relations c.args.texts.now in
     let d = document_seen c.args.scope.now.document.now in
     let h = option_map (λ n. n.now) c.args.handed in
-    let l = place_at c.args.scope.now.start.now c.args.trail.now.items in
-    subst (λ (ps : List Part). IsTold r d c.args.scope.now.depth (parts_nodes r d c.args.left c.args.made h l ps) (kept_view c.args.kept.now) (kept_view c.convert_parts.new.kept))
-    (ap listed_view c.deref.ensures.value ∙ c.in_ok-parts.ensures.parts r) c.in_ok-trees.ensures.told
+    let o = spot_of c.args.scope.now.start.now c.args.trail.now.items h in
+    let ms = map branch_view c.args.finding.now.branches.items in
+    told_of_row r d c.args.scope.now.depth c.args.levels (path_by c.args.scope.now.start.now c.args.trail.now.items) c.args.finding.now.row (tree_view c.in_ok-tree.tree) _
+    (kept_view c.args.kept.now) (kept_view c.convert_parts.new.kept) (kept_view c.finished.new.kept) (g.T.Texts.relations c.convert_parts.new.texts) c.is_some-had.result
+    c.in_ok-trees.ensures.keeps (had_seen c.args.kept.now.values.unread c.is_some-had.result c.is_some-had.ensures)
+    (subst (λ (ps : List Part). IsTold r d c.args.scope.now.depth c.args.levels (all_nodes r d c.args.scope.now.depth c.args.levels o ms ps) (kept_view c.args.kept.now) (kept_view c.convert_parts.new.kept))
+    (ap listed_view c.deref.ensures.value ∙ c.in_ok-parts.ensures.parts r) c.in_ok-trees.ensures.told)
+    c.in_ok-tree.ensures.notes c.in_ok-tree.ensures.merges c.in_ok-tree.ensures.values
 
 pub convert_row-returns-in_err-parts-clause-refused : goal.convert_row-returns-in_err-parts-clause-refused
 convert_row-returns-in_err-parts-clause-refused g t c =
@@ -123,17 +211,38 @@ convert_row-returns-in_err-trees-clause-refused g t c =
     let r = g.T.Texts.relations c.args.texts.now in
     let d = document_seen c.args.scope.now.document.now in
     let h = option_map (λ n. n.now) c.args.handed in
-    let l = place_at c.args.scope.now.start.now c.args.trail.now.items in
+    let o = spot_of c.args.scope.now.start.now c.args.trail.now.items h in
+    let ms = map branch_view c.args.finding.now.branches.items in
     if_err c.from_residual-in_err-trees.result c.in_err-trees.field-0.0 _ c.from_residual-in_err-trees.ensures.1
-    (subst (λ (ps : List Part). Refuses r d c.args.scope.now.depth c.args.scope.now.start.now (g.T.Texts.faults c.args.texts.now) (g.T.Texts.faults c.convert_parts.new.texts) (parts_nodes r d c.args.left c.args.made h l ps) (fault_view c.in_err-trees.field-0.0))
+    (subst (λ (ps : List Part). Refuses r d c.args.scope.now.depth c.args.levels (g.T.Texts.faults c.args.texts.now) (g.T.Texts.faults c.convert_parts.new.texts) (all_nodes r d c.args.scope.now.depth c.args.levels o ms ps) (fault_view c.in_err-trees.field-0.0))
     (ap listed_view c.deref.ensures.value ∙ c.in_ok-parts.ensures.parts r) c.in_err-trees.ensures.refused)
 
+pub convert_row-returns-in_err-tree-clause-refused : goal.convert_row-returns-in_err-tree-clause-refused
+convert_row-returns-in_err-tree-clause-refused g t c =
+    if_err c.from_residual-in_err-tree.result c.in_err-tree.field-0.0 _ c.from_residual-in_err-tree.ensures.1
+    (by_none (none_from _ _ _ _ c.in_ok-trees.ensures.counts c.in_err-tree.ensures.refused))
+
 -- ---- one part after another
+
+pub convert_parts-convert_part-requires : goal.convert_parts-convert_part-requires
+convert_parts-convert_part-requires g t c =
+    let r = g.T.Texts.relations c.args.texts.now in
+    let d = document_seen c.args.scope.now.document.now in
+    let h = option_map (λ n. n.now) c.args.handed in
+    let o = spot_of c.args.scope.now.start.now c.args.trail.now.items h in
+    let ms = map branch_view c.args.branches.now.items in
+    let inv = c.loop-listed.invariant in
+    let e : c.args.levels * 10 + 4 ≡ t = c.decreases in
+    let k : c.args.levels * 10 + 3 < t = omega (arith, e) in
+    let next_first =
+    part_begins r d c.args.scope.now.depth c.args.levels o ms _ inv.keeps c.args.parts.now c.loop-listed.listed-index c.listed-item.result (kept_view c.args.kept.now) (kept_view c.loop-listed.kept)
+    c.loop-listed-test.true c.listed-item.is inv.told c.requires in
+    λ κs within. (k, (within, next_first))
 
 pub convert_parts-loop-listed-init : goal.convert_parts-loop-listed-init
 convert_parts-loop-listed-init g t c = record {
   entries = search rules;
-  told = passed_none _ _ _ _ _;
+  told = passed_none _ _ _ _ _ _;
   keeps = refl;
   counts = omega arith;
 }
@@ -144,319 +253,264 @@ convert_parts-loop-listed-preserved g t c =
     let r' = g.T.Texts.relations c.loop-listed.texts in
     let d = document_seen c.args.scope.now.document.now in
     let h = option_map (λ n. n.now) c.args.handed in
-    let l = place_at c.args.scope.now.start.now c.args.trail.now.items in
+    let o = spot_of c.args.scope.now.start.now c.args.trail.now.items h in
+    let ms = map branch_view c.args.branches.now.items in
     let most = c.args.scope.now.depth in
     let inv = c.loop-listed.invariant in
     record {
-      entries = entries_next r d most c.args.left c.args.made h l r' inv.keeps c.args.parts.now c.loop-listed.listed-index c.listed-item.result (tree_view c.in_ok-tree.tree) (map tree_view c.loop-listed.trees.items) (map tree_view c.push_tree.new.trees.items) _
+      entries = entries_next r d most c.args.levels o ms r' inv.keeps c.args.parts.now c.loop-listed.listed-index c.listed-item.result (tree_view c.in_ok-tree.tree) (map tree_view c.loop-listed.trees.items) (map tree_view c.push_tree.new.trees.items) _
           c.loop-listed-test.true c.listed-item.is inv.entries c.in_ok-push_tree.ensures.trees c.in_ok-tree.ensures.entry;
-      told = told_next r d most c.args.left c.args.made h l r' inv.keeps c.args.parts.now c.loop-listed.listed-index c.listed-item.result (kept_view c.args.kept.now) (kept_view c.loop-listed.kept) (kept_view c.convert_part.new.kept)
+      told = told_next r d most c.args.levels o ms r' inv.keeps c.args.parts.now c.loop-listed.listed-index c.listed-item.result (kept_view c.args.kept.now) (kept_view c.loop-listed.kept) (kept_view c.convert_part.new.kept)
           c.loop-listed-test.true c.listed-item.is inv.told c.in_ok-tree.ensures.told;
       keeps = c.in_ok-tree.ensures.keeps ∙ inv.keeps;
       counts = omega (arith, inv.counts, c.in_ok-tree.ensures.counts);
     }
 
-pub convert_parts-returns-clause-entries : goal.convert_parts-returns-clause-entries
-convert_parts-returns-clause-entries g t c =
+pub convert_parts-returns-clause-entry : goal.convert_parts-returns-clause-entry
+convert_parts-returns-clause-entry g t c =
     let r = g.T.Texts.relations c.args.texts.now in
     let d = document_seen c.args.scope.now.document.now in
     let h = option_map (λ n. n.now) c.args.handed in
-    let l = place_at c.args.scope.now.start.now c.args.trail.now.items in
-    entries_all r d c.args.scope.now.depth c.args.left c.args.made h l _ c.loop-listed.invariant.keeps c.args.parts.now c.loop-listed.listed-index (map tree_view c.loop-listed.trees.items) c.loop-listed-test.false c.loop-listed.invariant.entries
+    let o = spot_of c.args.scope.now.start.now c.args.trail.now.items h in
+    let ms = map branch_view c.args.branches.now.items in
+    entries_all r d c.args.scope.now.depth c.args.levels o ms _ c.loop-listed.invariant.keeps c.args.parts.now c.loop-listed.listed-index (map tree_view c.loop-listed.trees.items) c.loop-listed-test.false c.loop-listed.invariant.entries
 
 pub convert_parts-returns-clause-told : goal.convert_parts-returns-clause-told
 convert_parts-returns-clause-told g t c =
     let r = g.T.Texts.relations c.args.texts.now in
     let d = document_seen c.args.scope.now.document.now in
     let h = option_map (λ n. n.now) c.args.handed in
-    let l = place_at c.args.scope.now.start.now c.args.trail.now.items in
-    told_all r d c.args.scope.now.depth c.args.left c.args.made h l _ c.loop-listed.invariant.keeps c.args.parts.now c.loop-listed.listed-index (kept_view c.args.kept.now) (kept_view c.loop-listed.kept)
+    let o = spot_of c.args.scope.now.start.now c.args.trail.now.items h in
+    let ms = map branch_view c.args.branches.now.items in
+    told_all r d c.args.scope.now.depth c.args.levels o ms _ c.loop-listed.invariant.keeps c.args.parts.now c.loop-listed.listed-index (kept_view c.args.kept.now) (kept_view c.loop-listed.kept)
     c.loop-listed-test.false c.loop-listed.invariant.told
 
 pub convert_parts-returns-in_err-tree-clause-refused : goal.convert_parts-returns-in_err-tree-clause-refused
 convert_parts-returns-in_err-tree-clause-refused g t c =
     let r = g.T.Texts.relations c.args.texts.now in
-    let r' = g.T.Texts.relations c.loop-listed.texts in
     let d = document_seen c.args.scope.now.document.now in
     let h = option_map (λ n. n.now) c.args.handed in
-    let l = place_at c.args.scope.now.start.now c.args.trail.now.items in
+    let o = spot_of c.args.scope.now.start.now c.args.trail.now.items h in
+    let ms = map branch_view c.args.branches.now.items in
     let inv = c.loop-listed.invariant in
     if_err c.from_residual.result c.in_err-tree.field-0.0 _ c.from_residual.ensures.1
-    (part_refuses r d c.args.scope.now.depth c.args.left c.args.made h l r' inv.keeps c.args.parts.now c.loop-listed.listed-index c.listed-item.result (kept_view c.args.kept.now) (kept_view c.loop-listed.kept) c.args.scope.now.start.now _
-    (g.T.Texts.faults c.args.texts.now) (g.T.Texts.faults c.loop-listed.texts) _ c.loop-listed-test.true c.listed-item.is inv.told inv.counts c.in_err-tree.ensures.refused)
+    (part_refuses r d c.args.scope.now.depth c.args.levels o ms _ inv.keeps c.args.parts.now c.loop-listed.listed-index c.listed-item.result (kept_view c.args.kept.now) (kept_view c.loop-listed.kept) _ _ _ _
+    c.loop-listed-test.true c.listed-item.is inv.told inv.counts c.in_err-tree.ensures.refused)
 
 pub convert_parts-returns-in_err-push_tree-clause-refused : goal.convert_parts-returns-in_err-push_tree-clause-refused
 convert_parts-returns-in_err-push_tree-clause-refused g t c =
     if_err c.from_residual-in_err-push_tree.result c.in_err-push_tree.field-0.0 _ c.from_residual-in_err-push_tree.ensures.1 (want_refuses _ _ _ _ _ _ _ _ c.in_err-push_tree.ensures.memory)
 
--- ---- a step on
+-- ---- a part at its place
 
-pub one_on-returns-clause-told : goal.one_on-returns-clause-told
-one_on-returns-clause-told g t c =
+pub convert_part-convert-requires : goal.convert_part-convert-requires
+convert_part-convert-requires g t c =
     let r = g.T.Texts.relations c.args.texts.now in
     let d = document_seen c.args.scope.now.document.now in
-    let s = source_view c.args.source.now in
     let h = option_map (λ n. n.now) c.args.handed in
-    let n = c.args.left in
-    let most = c.args.scope.now.depth in
-    let start = c.args.scope.now.start.now in
-    let l = place_at start c.args.trail.now.items in
-    told_moved r d most (λ l. tree r d n h l s) (l ++ steps_view c.args.steps) (place_at start c.in_ok-longer.longer.items) (kept_view c.args.kept.now) (kept_view c.enter.new.kept)
-    c.in_ok-longer.ensures.place c.in_ok-tree.ensures.told
+    let spot_is : spot_of c.start_at.result.now c.in_ok-place.place.trail.items (option_map (λ n. n.now) c.name_for-name.result) ≡ part_spot (spot_of c.args.scope.now.start.now c.args.trail.now.items h) (map branch_view c.args.branches.now.items) (part_view c.args.part.now) =
+    (λ i. spot_of (c.start_at.ensures i) c.in_ok-place.place.trail.items (c.name_for-name.ensures i)) ∙ c.in_ok-place.ensures.place h in
+    let e : c.args.levels * 10 + 3 ≡ t = c.decreases in
+    let k : c.args.levels * 10 < t = omega (arith, e) in
+    λ κs within. (k, (within, subst (λ t. t) (λ i. Begins (kept_view c.args.kept.now).merges (merges_in (tree_at r d c.args.scope.now.depth c.args.levels (sym spot_is i) (schema_of_part c.args.part.now i)))) c.requires))
 
-pub one_on-returns-then-count-ne1-clause-refused : goal.one_on-returns-then-count-ne1-clause-refused
-one_on-returns-then-count-ne1-clause-refused g t c = want_refuses _ _ _ _ _ _ _ _ refl
-
-pub one_on-returns-in_err-longer-clause-refused : goal.one_on-returns-in_err-longer-clause-refused
-one_on-returns-in_err-longer-clause-refused g t c =
-    if_err c.from_residual.result c.in_err-longer.field-0.0 _ c.from_residual.ensures.1 (want_refuses _ _ _ _ _ _ _ _ c.in_err-longer.ensures.memory)
-
-pub one_on-returns-in_err-tree-clause-refused : goal.one_on-returns-in_err-tree-clause-refused
-one_on-returns-in_err-tree-clause-refused g t c =
+pub convert_part-returns-clause-entry : goal.convert_part-returns-clause-entry
+convert_part-returns-clause-entry g t c =
     let r = g.T.Texts.relations c.args.texts.now in
     let d = document_seen c.args.scope.now.document.now in
-    let s = source_view c.args.source.now in
     let h = option_map (λ n. n.now) c.args.handed in
-    let n = c.args.left in
-    let most = c.args.scope.now.depth in
-    let start = c.args.scope.now.start.now in
-    let l = place_at start c.args.trail.now.items in
+    let spot_is : spot_of c.start_at.result.now c.in_ok-place.place.trail.items (option_map (λ n. n.now) c.name_for-name.result) ≡ part_spot (spot_of c.args.scope.now.start.now c.args.trail.now.items h) (map branch_view c.args.branches.now.items) (part_view c.args.part.now) =
+    (λ i. spot_of (c.start_at.ensures i) c.in_ok-place.place.trail.items (c.name_for-name.ensures i)) ∙ c.in_ok-place.ensures.place h in
+    c.in_ok-tree.ensures.entry ∙ (λ i. entry_at r d c.args.scope.now.depth c.args.levels (spot_is i) (sym (schema_of_part c.args.part.now) i))
+
+pub convert_part-returns-clause-told : goal.convert_part-returns-clause-told
+convert_part-returns-clause-told g t c =
+    let r = g.T.Texts.relations c.args.texts.now in
+    let d = document_seen c.args.scope.now.document.now in
+    let h = option_map (λ n. n.now) c.args.handed in
+    let spot_is : spot_of c.start_at.result.now c.in_ok-place.place.trail.items (option_map (λ n. n.now) c.name_for-name.result) ≡ part_spot (spot_of c.args.scope.now.start.now c.args.trail.now.items h) (map branch_view c.args.branches.now.items) (part_view c.args.part.now) =
+    (λ i. spot_of (c.start_at.ensures i) c.in_ok-place.place.trail.items (c.name_for-name.ensures i)) ∙ c.in_ok-place.ensures.place h in
+    subst (λ t. t) (λ i. IsTold r d c.args.scope.now.depth c.args.levels (tree_at r d c.args.scope.now.depth c.args.levels (spot_is i) (sym (schema_of_part c.args.part.now) i)) (kept_view c.args.kept.now) (kept_view c.convert.new.kept)) c.in_ok-tree.ensures.told
+
+pub convert_part-returns-in_err-place-clause-refused : goal.convert_part-returns-in_err-place-clause-refused
+convert_part-returns-in_err-place-clause-refused g t c =
+    if_err c.from_residual.result c.in_err-place.field-0.0 _ c.from_residual.ensures.1 (want_refuses _ _ _ _ _ _ _ _ c.in_err-place.ensures.memory)
+
+pub convert_part-returns-in_err-tree-clause-refused : goal.convert_part-returns-in_err-tree-clause-refused
+convert_part-returns-in_err-tree-clause-refused g t c =
+    let r = g.T.Texts.relations c.args.texts.now in
+    let d = document_seen c.args.scope.now.document.now in
+    let h = option_map (λ n. n.now) c.args.handed in
+    let spot_is : spot_of c.start_at.result.now c.in_ok-place.place.trail.items (option_map (λ n. n.now) c.name_for-name.result) ≡ part_spot (spot_of c.args.scope.now.start.now c.args.trail.now.items h) (map branch_view c.args.branches.now.items) (part_view c.args.part.now) =
+    (λ i. spot_of (c.start_at.ensures i) c.in_ok-place.place.trail.items (c.name_for-name.ensures i)) ∙ c.in_ok-place.ensures.place h in
     if_err c.from_residual-in_err-tree.result c.in_err-tree.field-0.0 _ c.from_residual-in_err-tree.ensures.1
-    (refuses_moved r d most (λ l. tree r d n h l s) (l ++ steps_view c.args.steps) (place_at start c.in_ok-longer.longer.items) start _ _ _
-    c.in_ok-longer.ensures.place c.in_err-tree.ensures.refused)
+    (subst (λ t. t) (λ i. Refuses r d c.args.scope.now.depth c.args.levels (g.T.Texts.faults c.args.texts.now) (g.T.Texts.faults c.convert.new.texts) (tree_at r d c.args.scope.now.depth c.args.levels (spot_is i) (sym (schema_of_part c.args.part.now) i)) (fault_view c.in_err-tree.field-0.0)) c.in_err-tree.ensures.refused)
 
-pub two_on-returns-clause-entry : goal.two_on-returns-clause-entry
-two_on-returns-clause-entry g t c =
+-- ---- a row that merges
+
+pub convert_merged-convert_standing-requires : goal.convert_merged-convert_standing-requires
+convert_merged-convert_standing-requires g t c =
     let r = g.T.Texts.relations c.args.texts.now in
     let d = document_seen c.args.scope.now.document.now in
-    let s = source_view c.args.source.now in
-    let h : Handed = None in
-    let n = c.args.left in
     let most = c.args.scope.now.depth in
-    let start = c.args.scope.now.start.now in
-    let l = place_at start c.args.trail.now.items in
-    c.in_ok-tree.ensures.entry ∙ sym (passed r d h s n (λ k. absurd (omega (arith, k, c.if-left-eq0.false))))
-
-pub two_on-returns-clause-told : goal.two_on-returns-clause-told
-two_on-returns-clause-told g t c =
-    let r = g.T.Texts.relations c.args.texts.now in
-    let d = document_seen c.args.scope.now.document.now in
-    let s = source_view c.args.source.now in
-    let h : Handed = None in
-    let n = c.args.left in
-    let most = c.args.scope.now.depth in
-    let start = c.args.scope.now.start.now in
-    let l = place_at start c.args.trail.now.items in
-    inner_told r d most n h (l ++ steps_view c.args.steps) s (kept_view c.args.kept.now) (kept_view c.enter.new.kept) (λ k. absurd (omega (arith, k, c.if-left-eq0.false)))
-    (told_moved r d most (λ l. tree r d (n - 1) h l s) (l ++ steps_view c.args.steps) (place_at start c.in_ok-longer.longer.items) (kept_view c.args.kept.now) (kept_view c.enter.new.kept)
-    c.in_ok-longer.ensures.place c.in_ok-tree.ensures.told)
-
-pub two_on-returns-then-left-eq0-clause-refused : goal.two_on-returns-then-left-eq0-clause-refused
-two_on-returns-then-left-eq0-clause-refused g t c = want_refuses _ _ _ _ _ _ _ _ refl
-
-pub two_on-returns-then-count-ne2-clause-refused : goal.two_on-returns-then-count-ne2-clause-refused
-two_on-returns-then-count-ne2-clause-refused g t c = want_refuses _ _ _ _ _ _ _ _ refl
-
-pub two_on-returns-in_err-longer-clause-refused : goal.two_on-returns-in_err-longer-clause-refused
-two_on-returns-in_err-longer-clause-refused g t c =
-    if_err c.from_residual.result c.in_err-longer.field-0.0 _ c.from_residual.ensures.1 (want_refuses _ _ _ _ _ _ _ _ c.in_err-longer.ensures.memory)
-
-pub two_on-returns-in_err-tree-clause-refused : goal.two_on-returns-in_err-tree-clause-refused
-two_on-returns-in_err-tree-clause-refused g t c =
-    let r = g.T.Texts.relations c.args.texts.now in
-    let d = document_seen c.args.scope.now.document.now in
-    let s = source_view c.args.source.now in
-    let h : Handed = None in
-    let n = c.args.left in
-    let most = c.args.scope.now.depth in
-    let start = c.args.scope.now.start.now in
-    let l = place_at start c.args.trail.now.items in
-    if_err c.from_residual-in_err-tree.result c.in_err-tree.field-0.0 _ c.from_residual-in_err-tree.ensures.1
-    (inner_refuses r d most n h (l ++ steps_view c.args.steps) s start _ _ _ (λ k. absurd (omega (arith, k, c.if-left-eq0.false)))
-    (refuses_moved r d most (λ l. tree r d (n - 1) h l s) (l ++ steps_view c.args.steps) (place_at start c.in_ok-longer.longer.items) start _ _ _
-    c.in_ok-longer.ensures.place c.in_err-tree.ensures.refused))
-
--- ---- the schema there
-
-pub enter-returns-clause-entry : goal.enter-returns-clause-entry
-enter-returns-clause-entry g t c =
-    let r = g.T.Texts.relations c.args.texts.now in
-    let d = document_seen c.args.scope.now.document.now in
+    let n = c.args.levels in
     let s = source_view c.args.source.now in
     let h = option_map (λ n. n.now) c.args.handed in
-    let n = c.args.left in
-    let most = c.args.scope.now.depth in
-    let start = c.args.scope.now.start.now in
-    let l = place_at start c.args.trail.now.items in
-    c.in_ok-tree.ensures.entry ∙ sym (entered r d h s n (λ k. absurd (omega (arith, k, c.if-left-eq0.false))))
+    let o = spot_of c.args.scope.now.start.now c.args.trail.now.items h in
+    let fd = finding_view r c.args.finding.now in
+    let m = merging r d most n o s fd (c.requires.finding r) c.requires.walk (c.requires.merged r) in
+    let next = next_is r d most n o s m (kept_view c.args.kept.now).merges (merge_view c.in_ok-merge.merge.now) (kept_view c.next_merge.new.kept).merges c.requires.begins c.in_ok-merge.ensures.next in
+    let ns = merge_notes_view c.in_ok-merge.merge.now.notes.items in
+    let u : StandingOf = record { spot = spot_of c.in-Stands.standing.start [] None; schema = schema_view c.in-Stands.standing.schema } in
+    let here : stands ns (Some u) ≡ merge_of_row o s m.outcome = ap (λ e. end_view e ns) (sym c.in-Stands.is) ∙ next.here in
+    let name_is = c.name_of_standing-name.ensures in
+    let left = c.in_ok-keep_merge_notes-in-Stands.ensures.merges ∙ c.in_ok-keep_notes-in-Stands.ensures.merges in
+    let e : c.args.levels * 10 + 6 ≡ t = c.decreases in
+    let k : c.args.levels * 10 + 3 < t = omega (arith, e) in
+    let inner_first : Begins (kept_view c.keep_merge_notes.new.kept).merges (merges_in (tree_at r d most n (spot_of c.in-Stands.standing.start [] (option_map (λ n. n.now) c.name_of_standing-name.result)) u.schema)) =
+    subst (λ t. t) (λ i. Begins (sym left i) (merges_in (tree_at r d most n (spot_of c.in-Stands.standing.start [] (sym name_is i)) u.schema)))
+    (standing_begins r d most n o s m ns u here (kept_view c.next_merge.new.kept).merges next.behind) in
+    λ κs within. (k, (within, inner_first))
 
-pub enter-returns-clause-told : goal.enter-returns-clause-told
-enter-returns-clause-told g t c =
+pub convert_merged-returns-in_ok-tree-in-Stands-clause-entry : goal.convert_merged-returns-in_ok-tree-in-Stands-clause-entry
+convert_merged-returns-in_ok-tree-in-Stands-clause-entry g t c =
     let r = g.T.Texts.relations c.args.texts.now in
     let d = document_seen c.args.scope.now.document.now in
+    let most = c.args.scope.now.depth in
+    let n = c.args.levels in
     let s = source_view c.args.source.now in
     let h = option_map (λ n. n.now) c.args.handed in
-    let n = c.args.left in
-    let most = c.args.scope.now.depth in
-    let start = c.args.scope.now.start.now in
-    let l = place_at start c.args.trail.now.items in
-    on_told r d most n h l s (kept_view c.args.kept.now) (kept_view c.convert.new.kept) (λ k. absurd (omega (arith, k, c.if-left-eq0.false))) c.in_ok-tree.ensures.told
+    let o = spot_of c.args.scope.now.start.now c.args.trail.now.items h in
+    let fd = finding_view r c.args.finding.now in
+    let m = merging r d most n o s fd (c.requires.finding r) c.requires.walk (c.requires.merged r) in
+    let next = next_is r d most n o s m (kept_view c.args.kept.now).merges (merge_view c.in_ok-merge.merge.now) (kept_view c.next_merge.new.kept).merges c.requires.begins c.in_ok-merge.ensures.next in
+    let ns = merge_notes_view c.in_ok-merge.merge.now.notes.items in
+    let u : StandingOf = record { spot = spot_of c.in-Stands.standing.start [] None; schema = schema_view c.in-Stands.standing.schema } in
+    let here : stands ns (Some u) ≡ merge_of_row o s m.outcome = ap (λ e. end_view e ns) (sym c.in-Stands.is) ∙ next.here in
+    let name_is = c.name_of_standing-name.ensures in
+    standing_entry_is r d most n o s m ns u here (tree_view c.in_ok-tree-in-Stands.tree)
+    (c.in_ok-tree-in-Stands.ensures.entry ∙ ap (λ (h : Handed). entry_at r d most n (spot_of c.in-Stands.standing.start [] h) u.schema) name_is)
 
-pub enter-returns-then-left-eq0-clause-refused : goal.enter-returns-then-left-eq0-clause-refused
-enter-returns-then-left-eq0-clause-refused g t c =
+pub convert_merged-returns-in_ok-tree-in-Stands-clause-told : goal.convert_merged-returns-in_ok-tree-in-Stands-clause-told
+convert_merged-returns-in_ok-tree-in-Stands-clause-told g t c =
     let r = g.T.Texts.relations c.args.texts.now in
     let d = document_seen c.args.scope.now.document.now in
+    let most = c.args.scope.now.depth in
+    let n = c.args.levels in
     let s = source_view c.args.source.now in
     let h = option_map (λ n. n.now) c.args.handed in
-    let n = c.args.left in
-    let most = c.args.scope.now.depth in
-    let start = c.args.scope.now.start.now in
-    let l = place_at start c.args.trail.now.items in
-    deep_here r d most n h l s start (fault_view c.too_deep.result) _ _ (trail_count c.args.trail.now.items) (omega (arith, c.if-left-eq0.true)) (omega (arith, c.requires, c.if-left-eq0.true)) c.too_deep.ensures
+    let o = spot_of c.args.scope.now.start.now c.args.trail.now.items h in
+    let fd = finding_view r c.args.finding.now in
+    let m = merging r d most n o s fd (c.requires.finding r) c.requires.walk (c.requires.merged r) in
+    let next = next_is r d most n o s m (kept_view c.args.kept.now).merges (merge_view c.in_ok-merge.merge.now) (kept_view c.next_merge.new.kept).merges c.requires.begins c.in_ok-merge.ensures.next in
+    let ns = merge_notes_view c.in_ok-merge.merge.now.notes.items in
+    let u : StandingOf = record { spot = spot_of c.in-Stands.standing.start [] None; schema = schema_view c.in-Stands.standing.schema } in
+    let here : stands ns (Some u) ≡ merge_of_row o s m.outcome = ap (λ e. end_view e ns) (sym c.in-Stands.is) ∙ next.here in
+    let name_is = c.name_of_standing-name.ensures in
+    let k = kept_view c.keep_merge_notes.new.kept in
+    let l = kept_view c.convert_standing.new.kept in
+    let left = c.in_ok-keep_merge_notes-in-Stands.ensures.merges ∙ c.in_ok-keep_notes-in-Stands.ensures.merges in
+    standing_told r d most n o s m ns u here fd (kept_view c.args.kept.now) k l (c.requires.finding r)
+    (c.in_ok-keep_merge_notes-in-Stands.ensures.notes h ∙ ap (λ ks. ks ++ map (merge_note o) ns) (c.in_ok-keep_notes-in-Stands.ensures.notes h ∙ ap (λ ks. ks ++ map (placed_note o fd.branches) fd.notes) c.in_ok-merge.ensures.notes))
+    (c.in_ok-keep_merge_notes-in-Stands.ensures.values ∙ c.in_ok-keep_notes-in-Stands.ensures.values ∙ c.in_ok-merge.ensures.values)
+    (c.in_ok-merge.ensures.next ∙ (λ i. end_view (c.in-Stands.is i) ns ∷ sym left i))
+    (subst (λ (h : Handed). IsTold r d most n (tree_at r d most n (spot_of c.in-Stands.standing.start [] h) u.schema) k l) name_is c.in_ok-tree-in-Stands.ensures.told)
 
-pub enter-returns-in_err-tree-clause-refused : goal.enter-returns-in_err-tree-clause-refused
-enter-returns-in_err-tree-clause-refused g t c =
+pub convert_merged-returns-in_err-keep_notes-in-Stands-clause-refused : goal.convert_merged-returns-in_err-keep_notes-in-Stands-clause-refused
+convert_merged-returns-in_err-keep_notes-in-Stands-clause-refused g t c =
+    if_err c.from_residual-in_err-keep_notes-in-Stands.result c.in_err-keep_notes-in-Stands.field-0.0 _ c.from_residual-in_err-keep_notes-in-Stands.ensures.1 (want_refuses _ _ _ _ _ _ _ _ c.in_err-keep_notes-in-Stands.ensures.memory)
+
+pub convert_merged-returns-in_err-keep_merge_notes-in-Stands-clause-refused : goal.convert_merged-returns-in_err-keep_merge_notes-in-Stands-clause-refused
+convert_merged-returns-in_err-keep_merge_notes-in-Stands-clause-refused g t c =
+    if_err c.from_residual-in_err-keep_merge_notes-in-Stands.result c.in_err-keep_merge_notes-in-Stands.field-0.0 _ c.from_residual-in_err-keep_merge_notes-in-Stands.ensures.1 (want_refuses _ _ _ _ _ _ _ _ c.in_err-keep_merge_notes-in-Stands.ensures.memory)
+
+pub convert_merged-returns-in_err-tree-in-Stands-clause-refused : goal.convert_merged-returns-in_err-tree-in-Stands-clause-refused
+convert_merged-returns-in_err-tree-in-Stands-clause-refused g t c =
     let r = g.T.Texts.relations c.args.texts.now in
     let d = document_seen c.args.scope.now.document.now in
+    let most = c.args.scope.now.depth in
+    let n = c.args.levels in
     let s = source_view c.args.source.now in
     let h = option_map (λ n. n.now) c.args.handed in
-    let n = c.args.left in
+    let o = spot_of c.args.scope.now.start.now c.args.trail.now.items h in
+    let fd = finding_view r c.args.finding.now in
+    let m = merging r d most n o s fd (c.requires.finding r) c.requires.walk (c.requires.merged r) in
+    let next = next_is r d most n o s m (kept_view c.args.kept.now).merges (merge_view c.in_ok-merge.merge.now) (kept_view c.next_merge.new.kept).merges c.requires.begins c.in_ok-merge.ensures.next in
+    let ns = merge_notes_view c.in_ok-merge.merge.now.notes.items in
+    let u : StandingOf = record { spot = spot_of c.in-Stands.standing.start [] None; schema = schema_view c.in-Stands.standing.schema } in
+    let here : stands ns (Some u) ≡ merge_of_row o s m.outcome = ap (λ e. end_view e ns) (sym c.in-Stands.is) ∙ next.here in
+    let name_is = c.name_of_standing-name.ensures in
+    if_err c.from_residual-in_err-tree-in-Stands.result c.in_err-tree-in-Stands.field-0.0 _ c.from_residual-in_err-tree-in-Stands.ensures.1
+    (standing_refuses r d most n o s m ns u here _ _ _
+    (subst (λ (h : Handed). Refuses r d most n (g.T.Texts.faults c.args.texts.now) (g.T.Texts.faults c.convert_standing.new.texts) (tree_at r d most n (spot_of c.in-Stands.standing.start [] h) u.schema) (fault_view c.in_err-tree-in-Stands.field-0.0)) name_is c.in_err-tree-in-Stands.ensures.refused))
+
+pub convert_merged-returns-in_err-merge-clause-refused : goal.convert_merged-returns-in_err-merge-clause-refused
+convert_merged-returns-in_err-merge-clause-refused g t c =
+    if_err c.from_residual.result c.in_err-merge.field-0.0 _ c.from_residual.ensures.1 (want_refuses _ _ _ _ _ _ _ _ c.in_err-merge.ensures.memory)
+
+pub convert_merged-returns-in-Deep-clause-refused : goal.convert_merged-returns-in-Deep-clause-refused
+convert_merged-returns-in-Deep-clause-refused g t c =
+    let r = g.T.Texts.relations c.args.texts.now in
+    let d = document_seen c.args.scope.now.document.now in
     let most = c.args.scope.now.depth in
-    let start = c.args.scope.now.start.now in
-    let l = place_at start c.args.trail.now.items in
+    let n = c.args.levels in
+    let s = source_view c.args.source.now in
+    let h = option_map (λ n. n.now) c.args.handed in
+    let o = spot_of c.args.scope.now.start.now c.args.trail.now.items h in
+    let fd = finding_view r c.args.finding.now in
+    let m = merging r d most n o s fd (c.requires.finding r) c.requires.walk (c.requires.merged r) in
+    let next = next_is r d most n o s m (kept_view c.args.kept.now).merges (merge_view c.in_ok-merge.merge.now) (kept_view c.next_merge.new.kept).merges c.requires.begins c.in_ok-merge.ensures.next in
+    merge_refuses r d most n o s m _ _ _ (c.refused_merge.ensures r d most n h s m.outcome (merge_notes_view c.in_ok-merge.merge.now.notes.items) next.here)
+
+pub convert_merged-returns-in-Unsupported-clause-refused : goal.convert_merged-returns-in-Unsupported-clause-refused
+convert_merged-returns-in-Unsupported-clause-refused g t c =
+    let r = g.T.Texts.relations c.args.texts.now in
+    let d = document_seen c.args.scope.now.document.now in
+    let most = c.args.scope.now.depth in
+    let n = c.args.levels in
+    let s = source_view c.args.source.now in
+    let h = option_map (λ n. n.now) c.args.handed in
+    let o = spot_of c.args.scope.now.start.now c.args.trail.now.items h in
+    let fd = finding_view r c.args.finding.now in
+    let m = merging r d most n o s fd (c.requires.finding r) c.requires.walk (c.requires.merged r) in
+    let next = next_is r d most n o s m (kept_view c.args.kept.now).merges (merge_view c.in_ok-merge.merge.now) (kept_view c.next_merge.new.kept).merges c.requires.begins c.in_ok-merge.ensures.next in
+    merge_refuses r d most n o s m _ _ _ (c.refused_merge-in-Unsupported.ensures r d most n h s m.outcome (merge_notes_view c.in_ok-merge.merge.now.notes.items) next.here)
+
+-- ---- what stands in its place
+
+pub convert_standing-convert-requires : goal.convert_standing-convert-requires
+convert_standing-convert-requires g t c =
+    let r = g.T.Texts.relations c.args.texts.now in
+    let d = document_seen c.args.scope.now.document.now in
+    let h = option_map (λ n. n.now) c.args.handed in
+    let s = schema_view c.args.standing.now.schema in
+    let e : c.args.levels * 10 + 3 ≡ t = c.decreases in
+    let k : c.args.levels * 10 < t = omega (arith, e) in
+    λ κs within. (k, (within, subst (λ (ks : List Steps). Begins (kept_view c.args.kept.now).merges (merges_in (tree_at r d c.args.scope.now.depth c.args.levels (spot_of c.args.standing.now.start ks h) s))) (sym c.new-trail.ensures.items) c.requires))
+
+pub convert_standing-returns-clause-entry : goal.convert_standing-returns-clause-entry
+convert_standing-returns-clause-entry g t c =
+    let r = g.T.Texts.relations c.args.texts.now in
+    let d = document_seen c.args.scope.now.document.now in
+    let h = option_map (λ n. n.now) c.args.handed in
+    let s = schema_view c.args.standing.now.schema in
+    c.in_ok-tree.ensures.entry ∙ ap (λ (ks : List Steps). entry_at r d c.args.scope.now.depth c.args.levels (spot_of c.args.standing.now.start ks h) s) c.new-trail.ensures.items
+
+pub convert_standing-returns-clause-told : goal.convert_standing-returns-clause-told
+convert_standing-returns-clause-told g t c =
+    let r = g.T.Texts.relations c.args.texts.now in
+    let d = document_seen c.args.scope.now.document.now in
+    let h = option_map (λ n. n.now) c.args.handed in
+    let s = schema_view c.args.standing.now.schema in
+    subst (λ (ks : List Steps). IsTold r d c.args.scope.now.depth c.args.levels (tree_at r d c.args.scope.now.depth c.args.levels (spot_of c.args.standing.now.start ks h) s) (kept_view c.args.kept.now) (kept_view c.convert.new.kept))
+    c.new-trail.ensures.items c.in_ok-tree.ensures.told
+
+pub convert_standing-returns-in_err-tree-clause-refused : goal.convert_standing-returns-in_err-tree-clause-refused
+convert_standing-returns-in_err-tree-clause-refused g t c =
+    let r = g.T.Texts.relations c.args.texts.now in
+    let d = document_seen c.args.scope.now.document.now in
+    let h = option_map (λ n. n.now) c.args.handed in
+    let s = schema_view c.args.standing.now.schema in
     if_err c.from_residual.result c.in_err-tree.field-0.0 _ c.from_residual.ensures.1
-    (on_refuses r d most n h l s start _ _ _ (λ k. absurd (omega (arith, k, c.if-left-eq0.false))) c.in_err-tree.ensures.refused)
-
--- ---- a part, by its kind
-
-pub convert_part-returns-in-Child-clause-entry : goal.convert_part-returns-in-Child-clause-entry
-convert_part-returns-in-Child-clause-entry g t c =
-    let r = g.T.Texts.relations c.args.texts.now in
-    let d = document_seen c.args.scope.now.document.now in
-    let h = option_map (λ n. n.now) c.args.handed in
-    let n = c.args.left in
-    let most = c.args.scope.now.depth in
-    let start = c.args.scope.now.start.now in
-    let l = place_at start c.args.trail.now.items in
-    subst (λ (k : PartKind). IfOk c.one_on.result (λ e. tree_view e ≡ converted r d n c.args.made h (part_by k (steps_view c.args.part.now.steps) (source_view c.args.part.now.source)))) (sym c.in-Child.is) c.one_on.ensures.entry
-
-pub convert_part-returns-in-Child-clause-told : goal.convert_part-returns-in-Child-clause-told
-convert_part-returns-in-Child-clause-told g t c =
-    let r = g.T.Texts.relations c.args.texts.now in
-    let d = document_seen c.args.scope.now.document.now in
-    let h = option_map (λ n. n.now) c.args.handed in
-    let n = c.args.left in
-    let most = c.args.scope.now.depth in
-    let start = c.args.scope.now.start.now in
-    let l = place_at start c.args.trail.now.items in
-    subst (λ (k : PartKind). OnOk c.one_on.result (IsTold r d most (part_nodes r d n c.args.made h l (part_by k (steps_view c.args.part.now.steps) (source_view c.args.part.now.source))) (kept_view c.args.kept.now) (kept_view c.one_on.new.kept))) (sym c.in-Child.is) c.one_on.ensures.told
-
-pub convert_part-returns-in-Child-clause-refused : goal.convert_part-returns-in-Child-clause-refused
-convert_part-returns-in-Child-clause-refused g t c =
-    let r = g.T.Texts.relations c.args.texts.now in
-    let d = document_seen c.args.scope.now.document.now in
-    let h = option_map (λ n. n.now) c.args.handed in
-    let n = c.args.left in
-    let most = c.args.scope.now.depth in
-    let start = c.args.scope.now.start.now in
-    let l = place_at start c.args.trail.now.items in
-    subst (λ (k : PartKind). IfErr c.one_on.result (λ f. Refuses r d most start (g.T.Texts.faults c.args.texts.now) (g.T.Texts.faults c.one_on.new.texts) (part_nodes r d n c.args.made h l (part_by k (steps_view c.args.part.now.steps) (source_view c.args.part.now.source))) (fault_view f))) (sym c.in-Child.is) c.one_on.ensures.refused
-
-pub convert_part-returns-in-OfBranch-clause-entry : goal.convert_part-returns-in-OfBranch-clause-entry
-convert_part-returns-in-OfBranch-clause-entry g t c =
-    let r = g.T.Texts.relations c.args.texts.now in
-    let d = document_seen c.args.scope.now.document.now in
-    let h = option_map (λ n. n.now) c.args.handed in
-    let n = c.args.left in
-    let most = c.args.scope.now.depth in
-    let start = c.args.scope.now.start.now in
-    let l = place_at start c.args.trail.now.items in
-    subst (λ (k : PartKind). IfOk c.two_on.result (λ e. tree_view e ≡ converted r d n c.args.made h (part_by k (steps_view c.args.part.now.steps) (source_view c.args.part.now.source)))) (sym c.in-OfBranch.is) c.two_on.ensures.entry
-
-pub convert_part-returns-in-OfBranch-clause-told : goal.convert_part-returns-in-OfBranch-clause-told
-convert_part-returns-in-OfBranch-clause-told g t c =
-    let r = g.T.Texts.relations c.args.texts.now in
-    let d = document_seen c.args.scope.now.document.now in
-    let h = option_map (λ n. n.now) c.args.handed in
-    let n = c.args.left in
-    let most = c.args.scope.now.depth in
-    let start = c.args.scope.now.start.now in
-    let l = place_at start c.args.trail.now.items in
-    subst (λ (k : PartKind). OnOk c.two_on.result (IsTold r d most (part_nodes r d n c.args.made h l (part_by k (steps_view c.args.part.now.steps) (source_view c.args.part.now.source))) (kept_view c.args.kept.now) (kept_view c.two_on.new.kept))) (sym c.in-OfBranch.is) c.two_on.ensures.told
-
-pub convert_part-returns-in-OfBranch-clause-refused : goal.convert_part-returns-in-OfBranch-clause-refused
-convert_part-returns-in-OfBranch-clause-refused g t c =
-    let r = g.T.Texts.relations c.args.texts.now in
-    let d = document_seen c.args.scope.now.document.now in
-    let h = option_map (λ n. n.now) c.args.handed in
-    let n = c.args.left in
-    let most = c.args.scope.now.depth in
-    let start = c.args.scope.now.start.now in
-    let l = place_at start c.args.trail.now.items in
-    subst (λ (k : PartKind). IfErr c.two_on.result (λ f. Refuses r d most start (g.T.Texts.faults c.args.texts.now) (g.T.Texts.faults c.two_on.new.texts) (part_nodes r d n c.args.made h l (part_by k (steps_view c.args.part.now.steps) (source_view c.args.part.now.source))) (fault_view f))) (sym c.in-OfBranch.is) c.two_on.ensures.refused
-
-pub convert_part-returns-in-Lone-clause-entry : goal.convert_part-returns-in-Lone-clause-entry
-convert_part-returns-in-Lone-clause-entry g t c =
-    let r = g.T.Texts.relations c.args.texts.now in
-    let d = document_seen c.args.scope.now.document.now in
-    let h = option_map (λ n. n.now) c.args.handed in
-    let n = c.args.left in
-    let most = c.args.scope.now.depth in
-    let start = c.args.scope.now.start.now in
-    let l = place_at start c.args.trail.now.items in
-    subst (λ (k : PartKind). IfOk c.one_on-in-Lone.result (λ e. tree_view e ≡ converted r d n c.args.made h (part_by k (steps_view c.args.part.now.steps) (source_view c.args.part.now.source)))) (sym c.in-Lone.is) c.one_on-in-Lone.ensures.entry
-
-pub convert_part-returns-in-Lone-clause-told : goal.convert_part-returns-in-Lone-clause-told
-convert_part-returns-in-Lone-clause-told g t c =
-    let r = g.T.Texts.relations c.args.texts.now in
-    let d = document_seen c.args.scope.now.document.now in
-    let h = option_map (λ n. n.now) c.args.handed in
-    let n = c.args.left in
-    let most = c.args.scope.now.depth in
-    let start = c.args.scope.now.start.now in
-    let l = place_at start c.args.trail.now.items in
-    subst (λ (k : PartKind). OnOk c.one_on-in-Lone.result (IsTold r d most (part_nodes r d n c.args.made h l (part_by k (steps_view c.args.part.now.steps) (source_view c.args.part.now.source))) (kept_view c.args.kept.now) (kept_view c.one_on-in-Lone.new.kept))) (sym c.in-Lone.is) c.one_on-in-Lone.ensures.told
-
-pub convert_part-returns-in-Lone-clause-refused : goal.convert_part-returns-in-Lone-clause-refused
-convert_part-returns-in-Lone-clause-refused g t c =
-    let r = g.T.Texts.relations c.args.texts.now in
-    let d = document_seen c.args.scope.now.document.now in
-    let h = option_map (λ n. n.now) c.args.handed in
-    let n = c.args.left in
-    let most = c.args.scope.now.depth in
-    let start = c.args.scope.now.start.now in
-    let l = place_at start c.args.trail.now.items in
-    subst (λ (k : PartKind). IfErr c.one_on-in-Lone.result (λ f. Refuses r d most start (g.T.Texts.faults c.args.texts.now) (g.T.Texts.faults c.one_on-in-Lone.new.texts) (part_nodes r d n c.args.made h l (part_by k (steps_view c.args.part.now.steps) (source_view c.args.part.now.source))) (fault_view f))) (sym c.in-Lone.is) c.one_on-in-Lone.ensures.refused
-
-pub convert_part-returns-in-Made-clause-entry : goal.convert_part-returns-in-Made-clause-entry
-convert_part-returns-in-Made-clause-entry g t c =
-    let r = g.T.Texts.relations c.args.texts.now in
-    let d = document_seen c.args.scope.now.document.now in
-    let h = option_map (λ n. n.now) c.args.handed in
-    let n = c.args.left in
-    let most = c.args.scope.now.depth in
-    let start = c.args.scope.now.start.now in
-    let l = place_at start c.args.trail.now.items in
-    subst (λ (k : PartKind). IfOk c.convert.result (λ e. tree_view e ≡ converted r d n c.args.made h (part_by k (steps_view c.args.part.now.steps) (source_view c.args.part.now.source)))) (sym c.in-Made.is) c.convert.ensures.entry
-
-pub convert_part-returns-in-Made-clause-told : goal.convert_part-returns-in-Made-clause-told
-convert_part-returns-in-Made-clause-told g t c =
-    let r = g.T.Texts.relations c.args.texts.now in
-    let d = document_seen c.args.scope.now.document.now in
-    let h = option_map (λ n. n.now) c.args.handed in
-    let n = c.args.left in
-    let most = c.args.scope.now.depth in
-    let start = c.args.scope.now.start.now in
-    let l = place_at start c.args.trail.now.items in
-    subst (λ (k : PartKind). OnOk c.convert.result (IsTold r d most (part_nodes r d n c.args.made h l (part_by k (steps_view c.args.part.now.steps) (source_view c.args.part.now.source))) (kept_view c.args.kept.now) (kept_view c.convert.new.kept))) (sym c.in-Made.is) c.convert.ensures.told
-
-pub convert_part-returns-in-Made-clause-refused : goal.convert_part-returns-in-Made-clause-refused
-convert_part-returns-in-Made-clause-refused g t c =
-    let r = g.T.Texts.relations c.args.texts.now in
-    let d = document_seen c.args.scope.now.document.now in
-    let h = option_map (λ n. n.now) c.args.handed in
-    let n = c.args.left in
-    let most = c.args.scope.now.depth in
-    let start = c.args.scope.now.start.now in
-    let l = place_at start c.args.trail.now.items in
-    subst (λ (k : PartKind). IfErr c.convert.result (λ f. Refuses r d most start (g.T.Texts.faults c.args.texts.now) (g.T.Texts.faults c.convert.new.texts) (part_nodes r d n c.args.made h l (part_by k (steps_view c.args.part.now.steps) (source_view c.args.part.now.source))) (fault_view f))) (sym c.in-Made.is) c.convert.ensures.refused
+    (subst (λ (ks : List Steps). Refuses r d c.args.scope.now.depth c.args.levels (g.T.Texts.faults c.args.texts.now) (g.T.Texts.faults c.convert.new.texts) (tree_at r d c.args.scope.now.depth c.args.levels (spot_of c.args.standing.now.start ks h) s) (fault_view c.in_err-tree.field-0.0))
+    c.new-trail.ensures.items c.in_err-tree.ensures.refused)

@@ -1,7 +1,7 @@
 use Rattle.std.proofs.Common.{◌≡◌, drop, map}
 use Rattle.row_types.specs.View.{field_view}
 use Rattle.scalar_takes.specs.Unread.{first_of}
-use Rattle.stated_laws.specs.Stated.{stated_fields}
+use Rattle.stated_walks.specs.Stated.{stated_fields}
 use Rattle.convert_trees.proofs.stated.by_fields.Given as goal
 
 abbrev pub invariant-loop-field : goal.invariant-loop-field

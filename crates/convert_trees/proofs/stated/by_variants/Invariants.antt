@@ -1,7 +1,7 @@
 use Rattle.std.proofs.Common.{◌≡◌, drop, map}
 use Rattle.row_types.specs.View.{variant_view}
 use Rattle.scalar_takes.specs.Unread.{first_of}
-use Rattle.stated_laws.specs.Stated.{stated_variants}
+use Rattle.stated_walks.specs.Stated.{stated_variants}
 use Rattle.convert_trees.proofs.stated.by_variants.Given as goal
 
 abbrev pub invariant-loop-variant : goal.invariant-loop-variant

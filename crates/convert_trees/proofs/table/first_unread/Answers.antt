@@ -2,7 +2,7 @@ use Rattle.std.proofs.Common.{ap, sym, ◌∙◌}
 use Rattle.std.specs.Prelude.{option_map}
 use Rattle.schema_tree.specs.Document.{view as document_seen}
 use Rattle.entry_trees.specs.View.{table_view}
-use Rattle.convert_defs.specs.Convert.{document_tree}
+use Rattle.convert_walks.specs.Tree.{document_tree}
 use Rattle.convert_trees.specs.Keeping.{unread_view}
 use Rattle.convert_trees.proofs.Roots.{none_listed}
 use Rattle.convert_trees.proofs.Ruled.{if_ok_mapped}
@@ -15,4 +15,4 @@ pub returns-in-None-clause-unread : goal.returns-in-None-clause-unread
 returns-in-None-clause-unread g c = λ l.
     let r = g.T.Texts.relations c.args.texts.now in
     let d = document_seen c.args.document.now in
-    none_listed r d (table_view c.args.table.now) (document_tree r d c.args.depth) (sym (ap (option_map unread_view) c.in-None.is) ∙ l)
+    none_listed r d (table_view c.args.table.now) (document_tree r d c.args.depth c.args.levels) (sym (ap (option_map unread_view) c.in-None.is) ∙ l)
