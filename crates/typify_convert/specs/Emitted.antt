@@ -7,12 +7,12 @@ use Rattle.schema_defs.specs.Schema.{Document}
 use Rattle.schema_tree.specs.Conversions.{conversions_view}
 use Rattle.entry_defs.specs.Table.{root_of}
 use Rattle.emit_defs.specs.Emission.{Emission, emission}
-use Rattle.document_laws.specs.Laws.{plan_of}
+use Rattle.merged_documents.specs.Laws.{plan_of}
 use Rattle.typify_convert.specs.declared.conversion.Emitted.{Emitted}
 
 abbrev pub emitted_view : Emitted → Emission
 emitted_view e = record { items = map item_view e.items.items; conversions = conversions_view e.table; root = ty e.root }
 
 -- of the table of the document, with names, and of its root
-abbrev pub emission_of : Relations → Document → ℕ → Emission
-emission_of r d depth = emission (plan_of r d depth) (root_of (plan_of r d depth))
+abbrev pub emission_of : Relations → Document → ℕ → ℕ → Emission
+emission_of r d most n = emission (plan_of r d most n) (root_of (plan_of r d most n))

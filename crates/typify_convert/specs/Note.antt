@@ -1,11 +1,12 @@
 -- Notes of the program: their words, and those that stand for the notes of the definitions.
 use Rattle.std.specs.Prelude.{ℕ, List, codes}
 use Rattle.convert_defs.specs.Row as defs
+use Rattle.convert_walks.specs.Told as told
 use Rattle.typify_convert.specs.declared.note.Note.{Note}
 use Rattle.typify_convert.specs.declared.note.Way.{Way}
 use Rattle.typify_convert.specs.declared.note.Way.TheVariants.{Narrowed, Widened}
 use Rattle.typify_convert.specs.declared.note.NoteKind.{NoteKind}
-use Rattle.typify_convert.specs.declared.note.NoteKind.TheVariants.{N1, N2, N3, N4, N5, N6, N7, N8, N9, N10, N11, N12, N13, N14, N15, N16, N17, N18, N19, N20}
+use Rattle.typify_convert.specs.declared.note.NoteKind.TheVariants.{N1, N2, N3, N4, N5, N6, N7, N8, N9, N10, N11, N12, N13, N14, N15, N16, N17, N18, N19, N20, N21}
 
 abbrev pub way_text : Way → List ℕ
 way_text Narrowed = codes "Narrowed"
@@ -32,8 +33,9 @@ kind_text N17 = codes "formats"
 kind_text N18 = codes "clash"
 kind_text N19 = codes "members"
 kind_text N20 = codes "subtract"
+kind_text N21 = codes "absent"
 
--- ---- the notes of the definitions; the kinds after the fifteenth are of merges
+-- ---- the notes of the definitions; the kinds after the fifteenth are of merges alone
 
 abbrev pub way_of : defs.Way → Way
 way_of defs.narrowed = Narrowed
@@ -56,5 +58,14 @@ kind_of defs.counts_note = N13
 kind_of defs.names_note = N14
 kind_of defs.not_note = N15
 
-abbrev pub note_of : defs.Note → Note
-note_of n = record { way = way_of n.way; kind = kind_of n.kind; path = n.place }
+abbrev pub name_of : told.NoteName → NoteKind
+name_of (told.row_note k) = kind_of k
+name_of told.reference_note = N16
+name_of told.formats_note = N17
+name_of told.clash_note = N18
+name_of told.members_note = N19
+name_of told.subtract_note = N20
+name_of told.absent_note = N21
+
+abbrev pub note_of : told.Note → Note
+note_of n = record { way = way_of n.way; kind = name_of n.name; path = n.place }

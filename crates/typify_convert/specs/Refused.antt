@@ -1,28 +1,27 @@
--- Why a document isn't converted.
+-- Why a document isn't converted. A walk has at most `most` steps, and there are n levels.
 use Rattle.std.specs.Prelude.{◌≡◌, ◌⊎◌, ℕ, List, [], ◌∷◌}
 use Rattle.run_io.specs.Bytes.{Rises}
 use Rattle.schema_defs.specs.Location.{Location}
 use Rattle.schema_defs.specs.Texts.{Relations}
 use Rattle.schema_defs.specs.Schema.{Document}
 use Rattle.schema_tree.specs.Fault.{FaultD, memory, texts, invalid_value}
-use Rattle.convert_defs.specs.Convert.{document_tree}
-use Rattle.convert_defs.specs.Faults.{faults_of}
-use Rattle.convert_trees.specs.Told.{Tells, IsStart}
+use Rattle.convert_walks.specs.Told.{faults_of}
+use Rattle.convert_walks.specs.Tree.{document_tree}
+use Rattle.convert_trees.specs.Told.{Tells}
 use Rattle.convert_trees.specs.Unread.{At, unread_in_document}
-use Rattle.stated_laws.specs.Stated.{stated_in_document}
+use Rattle.stated_walks.specs.Stated.{stated_in_document}
 
-module _ (r : Relations) (d : Document) (depth : ℕ) where
-  -- the first fault of its schemas, or the first default that an optional property of theirs states, which isn't checked yet, in the order of conversion, where walks begin at the
-  -- root or at a definition
+module _ (r : Relations) (d : Document) (most n : ℕ) where
+  -- the first fault of its schemas, or the first default that an optional property of theirs states, which isn't checked yet, in the order of conversion
   abbrev pub IsFirst : FaultD → Type 0
-  IsFirst f = (start : Location) × IsStart d start × Tells r d depth start (document_tree r d depth) f
+  IsFirst f = Tells r d most n (document_tree r d most n) f
 
   -- where they have neither, the first listed value, in the same order, that the type of its schema's other keywords doesn't read
   abbrev pub IsUnread : FaultD → Type 0
-  IsUnread f = (at : At) × (more : List At) × (unread_in_document r d depth ≡ at ∷ more) × (f ≡ invalid_value at.0 at.1)
+  IsUnread f = (at : At) × (more : List At) × (unread_in_document r d most n ≡ at ∷ more) × (f ≡ invalid_value at.0 at.1)
 
   abbrev pub IsCause : FaultD → Type 0
-  IsCause f = IsFirst f ⊎ ((faults_of r d depth ≡ []) × (stated_in_document r d depth ≡ []) × IsUnread f)
+  IsCause f = IsFirst f ⊎ ((faults_of r d most n ≡ []) × (stated_in_document r d most n ≡ []) × IsUnread f)
 
   -- a failure of the judge of texts, whose count rose
   abbrev pub IsFailure : ℕ → ℕ → FaultD → Type 0

@@ -7,12 +7,15 @@ ghost use Rattle.entry_defs.specs.Table.{root_of};
 ghost use Rattle.naming_defs.specs.Names.{named_table as named_table_of};
 ghost use Rattle.naming_defs.specs.Good.{is_good_name};
 ghost use Rattle.emit_defs.specs.Emission.{emission as emission_by};
-ghost use Rattle.convert_defs.specs.Convert.{notes_of};
-ghost use Rattle.convert_defs.specs.Faults.{faults_of};
-ghost use Rattle.convert_defs.specs.Order.{ordered};
+ghost use Rattle.schema_defs.specs.Texts.{Relations};
+ghost use Rattle.schema_tree.specs.Fault.{memory};
+ghost use Rattle.convert_walks.specs.Told.{faults_of, notes_of, ordered};
+ghost use Rattle.convert_walks.specs.Tree.{document_tree};
+ghost use Rattle.row_merges.specs.Levels.{most_levels};
+ghost use Rattle.row_merges.specs.Merges.{merges_in, merges_view};
 ghost use Rattle.document_laws.specs.Laws.{WasRead};
 ghost use Rattle.convert_trees.specs.Unread.{unread_in_document};
-ghost use Rattle.stated_laws.specs.Stated.{stated_in_document};
+ghost use Rattle.stated_walks.specs.Stated.{stated_in_document};
 ghost use Rattle.entry_trees.specs.View.{table_view};
 ghost use Rattle.note_order.specs.Notes.{notes_view};
 ghost use Rattle.space_trees.specs.Formed.{IsFormed};
@@ -24,14 +27,15 @@ use crate::checking::check_read;
 use crate::note::Note;
 use crate::noting::notes_of;
 use convert_trees::table_of;
-use document_laws::laws::read_documents_are_planned;
 use entry_trees::TreeTable;
+use formed_plans::laws::plans_are_formed;
+use merged_documents::laws::read_documents_are_planned;
 use note_order::{PlacedNote, ordered_notes};
+use row_merges::{Merge, levels, merges_of};
 use schema_tree::{Conversions, Document, Fault, Texts};
 use space_emission::emit;
-use space_trees::laws::plans_are_formed;
 use space_trees::space_of;
-use stated_laws::laws::unstated_documents;
+use stated_walks::laws::unstated_documents;
 use std::alloc::{AllocError, Global};
 use syntax_trees::{DeriveInput, Ty};
 use tree_names::named_table;
@@ -71,14 +75,58 @@ fn from_table(
     })
 }
 
-/// The items that stand for a document, by the table of rows: each schema is converted by the first row that fits, what references
-/// lead to has an item, and names are given where wanted ones can't be had. `depth` bounds the steps from a definition or the root to
-/// a schema of it, and the places of a list that is shorter than its sizes. Notes say where the items don't take exactly what is admitted.
+// What the rows of the document merge.
+fn merged(alloc: Global, document: &Document, depth: u32, levels: u32) -> Result<Vec<Merge>, Fault>
+    ensures merges { IfOk result (λ ms. (r : Relations) → merges_view ms.items ≡ merges_in (document_tree r (document_seen document.now) depth levels)) }
+    ensures memory { IfErr result (λ f. fault_view f ≡ memory) }
+{
+    match merges_of(alloc, document, depth, levels) {
+        Ok(merges) => Ok(merges),
+        Err(_) => Err(Fault::Memory),
+    }
+}
+
+// The items that stand for a document, where so many schemas may stand in one another.
+#[tactic(auto, using(crate::proofs::Firsts::refused_all, crate::proofs::Firsts::without_memory))]
+fn converted_within<T: Texts>(
+    alloc: Global,
+    document: &Document,
+    depth: u32,
+    levels: u32,
+    texts: &mut T,
+) -> Result<Emitted, Fault>
+    requires { WasRead (document_seen document.now) }
+    ensures emission { IfOk result (λ e. emitted_view e ≡ emission_of (T.relations texts.old) (document_seen document.now) depth levels) }
+    ensures notes { IfOk result (λ e. e.notes.items ≡ map note_of (notes_of (T.relations texts.old) (document_seen document.now) depth levels)) }
+    ensures faultless { OnOk result (faults_of (T.relations texts.old) (document_seen document.now) depth levels ≡ []) }
+    ensures read { OnOk result (unread_in_document (T.relations texts.old) (document_seen document.now) depth levels ≡ []) }
+    ensures unstated { OnOk result (stated_in_document (T.relations texts.old) (document_seen document.now) depth levels ≡ []) }
+    ensures built { OnOk result ((emission_of (T.relations texts.old) (document_seen document.now) depth levels).conversions.defaults ≡ []) }
+    ensures refused { IfErr result (λ f. IsRefusal (T.relations texts.old) (document_seen document.now) depth levels (T.faults texts.old) (T.faults texts.new) (fault_view f)) }
+    ensures keeps { T.relations texts.new ≡ T.relations texts.old }
+    ensures counts { T.faults texts.old ≤ T.faults texts.new }
+{
+    read_documents_are_planned();
+    plans_are_formed();
+    unstated_documents();
+    let merges = merged(alloc, document, depth, levels)?;
+    let converted = table_of(alloc, document, &merges, depth, levels, texts)?;
+    check_read(converted.unread)?;
+    let notes = converted.notes;
+    match from_table(alloc, &converted.table, notes) {
+        Ok(emitted) => Ok(emitted),
+        Err(_) => Err(Fault::Memory),
+    }
+}
+
+/// The items that stand for a document, by the table of rows: each schema is converted by the first row that fits, one whose row merges
+/// by what it merges to, what references lead to has an item, and names are given where wanted ones can't be had. `depth` bounds the
+/// steps from a definition or the root to a schema of it, and the places of a list that is shorter than its sizes. Notes say where the
+/// items don't take exactly what is admitted.
 /// Refused is the first fault in the order of conversion: the definitions by name, then the root, each schema before its
 /// parts. Where a schema has no fault itself, but an optional property of it states a default, the first of them is told at its place as
 /// `Unsupported` of kind `NotYet`. Then the first listed value, in the same order, that the type of its schema's other keywords doesn't read
-/// (`InvalidValue`). `Texts` comes where the judge of texts failed, `Memory` where memory runs out.
-#[tactic(auto, using(crate::proofs::Firsts::refused_all, crate::proofs::Firsts::without_memory))]
+/// (`InvalidValue`). `Texts` comes where the judge of texts failed, `Memory` where memory runs out or too many schemas stand in one another.
 pub fn converted<T: Texts>(
     alloc: Global,
     document: &Document,
@@ -86,24 +134,16 @@ pub fn converted<T: Texts>(
     texts: &mut T,
 ) -> Result<Emitted, Fault>
     requires { WasRead (document_seen document.now) }
-    ensures emission { IfOk result (λ e. emitted_view e ≡ emission_of (T.relations texts.old) (document_seen document.now) depth) }
-    ensures notes { IfOk result (λ e. e.notes.items ≡ map note_of (notes_of (T.relations texts.old) (document_seen document.now) depth)) }
-    ensures faultless { OnOk result (faults_of (T.relations texts.old) (document_seen document.now) depth ≡ []) }
-    ensures read { OnOk result (unread_in_document (T.relations texts.old) (document_seen document.now) depth ≡ []) }
-    ensures unstated { OnOk result (stated_in_document (T.relations texts.old) (document_seen document.now) depth ≡ []) }
-    ensures built { OnOk result ((emission_of (T.relations texts.old) (document_seen document.now) depth).conversions.defaults ≡ []) }
-    ensures refused { IfErr result (λ f. IsRefusal (T.relations texts.old) (document_seen document.now) depth (T.faults texts.old) (T.faults texts.new) (fault_view f)) }
+    ensures emission { IfOk result (λ e. emitted_view e ≡ emission_of (T.relations texts.old) (document_seen document.now) depth most_levels) }
+    ensures notes { IfOk result (λ e. e.notes.items ≡ map note_of (notes_of (T.relations texts.old) (document_seen document.now) depth most_levels)) }
+    ensures faultless { OnOk result (faults_of (T.relations texts.old) (document_seen document.now) depth most_levels ≡ []) }
+    ensures read { OnOk result (unread_in_document (T.relations texts.old) (document_seen document.now) depth most_levels ≡ []) }
+    ensures unstated { OnOk result (stated_in_document (T.relations texts.old) (document_seen document.now) depth most_levels ≡ []) }
+    ensures built { OnOk result ((emission_of (T.relations texts.old) (document_seen document.now) depth most_levels).conversions.defaults ≡ []) }
+    ensures refused { IfErr result (λ f. IsRefusal (T.relations texts.old) (document_seen document.now) depth most_levels (T.faults texts.old) (T.faults texts.new) (fault_view f)) }
     ensures keeps { T.relations texts.new ≡ T.relations texts.old }
     ensures counts { T.faults texts.old ≤ T.faults texts.new }
 {
-    read_documents_are_planned();
-    plans_are_formed();
-    unstated_documents();
-    let converted = table_of(alloc, document, depth, texts)?;
-    check_read(converted.unread)?;
-    let notes = converted.notes;
-    match from_table(alloc, &converted.table, notes) {
-        Ok(emitted) => Ok(emitted),
-        Err(_) => Err(Fault::Memory),
-    }
+    let most = levels();
+    converted_within(alloc, document, depth, most, texts)
 }

@@ -34,6 +34,7 @@ pub enum NoteKind {
     N18,
     N19,
     N20,
+    N21,
 }
 
 /// A note: at the schema of that path the items are narrower or wider than the schema.
@@ -82,6 +83,7 @@ impl NoteKind {
             NoteKind::N18 => "clash",
             NoteKind::N19 => "members",
             NoteKind::N20 => "subtract",
+            NoteKind::N21 => "absent",
         }
     }
 }

@@ -1,11 +1,11 @@
 //! Notes of a document as they are told.
 ghost use Rattle.std.specs.Prelude.{◌≡◌, IfOk, map};
 ghost use Rattle.row_types.specs.View.{way_view, kind_view};
-ghost use Rattle.note_order.specs.Notes.{placed_view, notes_view};
-ghost use Rattle.typify_convert.specs.Note.{way_of as way_told, kind_of as kind_told, note_of as note_told};
+ghost use Rattle.note_order.specs.Notes.{name_view, placed_view, notes_view};
+ghost use Rattle.typify_convert.specs.Note.{way_of as way_told, kind_of as kind_told, name_of as name_told, note_of as note_told};
 
 use crate::note::{Note, NoteKind, Way};
-use note_order::PlacedNote;
+use note_order::{NoteName, PlacedNote};
 use std::alloc::{AllocError, Global};
 
 fn way_of(way: row_types::Way) -> Way
@@ -39,12 +39,26 @@ fn kind_of(kind: row_types::NoteKind) -> NoteKind
     }
 }
 
+fn name_of(name: NoteName) -> NoteKind
+    ensures { result ≡ name_told (name_view name) }
+{
+    match name {
+        NoteName::Row(kind) => kind_of(kind),
+        NoteName::Reference => NoteKind::N16,
+        NoteName::Formats => NoteKind::N17,
+        NoteName::Clash => NoteKind::N18,
+        NoteName::Members => NoteKind::N19,
+        NoteName::Subtract => NoteKind::N20,
+        NoteName::Absent => NoteKind::N21,
+    }
+}
+
 fn note_of(note: PlacedNote) -> Note
     ensures { result ≡ note_told (placed_view note) }
 {
     Note {
         way: way_of(note.way),
-        kind: kind_of(note.kind),
+        kind: name_of(note.name),
         path: note.path,
     }
 }

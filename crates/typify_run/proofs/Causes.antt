@@ -19,10 +19,11 @@ use Rattle.schema_tree.specs.declared.fault.Fault.{Fault}
 use Rattle.schema_tree.specs.Fault.{FaultD, fault_view, memory, malformed, missing_ref, external_ref, unguarded, depth, places, float, value_number, invalid_value, bad_value, invalid_schema, unsupported, texts}
 use Rattle.schema_tree.specs.Numbers.{are_i64, holds_i64_alone, wide_place, IsWideAt, HasWideNumber}
 use Rattle.schema_tree.proofs.WidePlaces.{wide_exact}
-use Rattle.convert_defs.specs.Faults.{faults_of}
+use Rattle.convert_walks.specs.Told.{faults_of}
+use Rattle.row_merges.specs.Levels.{most_levels}
 use Rattle.typify_convert.proofs.Firsts.{first_is_one}
 use Rattle.convert_trees.specs.Unread.{unread_in_document}
-use Rattle.stated_laws.specs.Stated.{stated_in_document}
+use Rattle.stated_walks.specs.Stated.{stated_in_document}
 use Rattle.typify_convert.specs.Refused as convert
 use Rattle.typify_run.specs.Verdicts.{IsUnjudged}
 use Rattle.typify_run.specs.Examine.{IsCause, IsRefusal, IsUnreported, is_none_of, is_converted, is_examined}
@@ -120,23 +121,23 @@ not_one x xs ys h e = absurd (cc)
 
 module _ (r : Relations) (n : ℕ) (d : Document) (e : is_converted r n (Some d) ≡ true) where
   abbrev rest_of : Bool
-  rest_of = is_none_of (stated_in_document r d n) && is_none_of (unread_in_document r d n)
+  rest_of = is_none_of (stated_in_document r d n most_levels) && is_none_of (unread_in_document r d n most_levels)
 
   rest_converted : rest_of ≡ true
-  rest_converted = (both_true (is_none_of (faults_of r d n)) rest_of e).1
+  rest_converted = (both_true (is_none_of (faults_of r d n most_levels)) rest_of e).1
 
-  no_faults : faults_of r d n ≡ []
-  no_faults = none_listed (faults_of r d n) (both_true (is_none_of (faults_of r d n)) rest_of e).0
+  no_faults : faults_of r d n most_levels ≡ []
+  no_faults = none_listed (faults_of r d n most_levels) (both_true (is_none_of (faults_of r d n most_levels)) rest_of e).0
 
-  none_stated : stated_in_document r d n ≡ []
-  none_stated = none_listed (stated_in_document r d n) (both_true (is_none_of (stated_in_document r d n)) (is_none_of (unread_in_document r d n)) rest_converted).0
+  none_stated : stated_in_document r d n most_levels ≡ []
+  none_stated = none_listed (stated_in_document r d n most_levels) (both_true (is_none_of (stated_in_document r d n most_levels)) (is_none_of (unread_in_document r d n most_levels)) rest_converted).0
 
-  none_unread : unread_in_document r d n ≡ []
-  none_unread = none_listed (unread_in_document r d n) (both_true (is_none_of (stated_in_document r d n)) (is_none_of (unread_in_document r d n)) rest_converted).1
+  none_unread : unread_in_document r d n most_levels ≡ []
+  none_unread = none_listed (unread_in_document r d n most_levels) (both_true (is_none_of (stated_in_document r d n most_levels)) (is_none_of (unread_in_document r d n most_levels)) rest_converted).1
 
-converted_has_none : (r : Relations) (n : ℕ) (d : Document) (f : FaultD) → is_converted r n (Some d) ≡ true → convert.IsCause r d n f → ⊥
-converted_has_none r n d f e (inl h) = first_is_one r d n f h (no_faults r n d e) (none_stated r n d e)
-converted_has_none r n d f e (inr (h, s, u)) = not_one u.0 u.1 (unread_in_document r d n) (none_unread r n d e) u.2
+converted_has_none : (r : Relations) (n : ℕ) (d : Document) (f : FaultD) → is_converted r n (Some d) ≡ true → convert.IsCause r d n most_levels f → ⊥
+converted_has_none r n d f e (inl h) = first_is_one r d n most_levels f h (no_faults r n d e) (none_stated r n d e)
+converted_has_none r n d f e (inr (h, s, u)) = not_one u.0 u.1 (unread_in_document r d n most_levels) (none_unread r n d e) u.2
 
 pub no_cause : (r : Relations) (n : ℕ) (schema : Value) (ds : List Data) (f : FaultD) → is_examined r n schema ds ≡ true → IsAccepted schema → IsCause r n schema ds f → ⊥
 no_cause r n schema ds f e a (inl h) = no_wide ds f (both_true (are_i64 ds) (is_converted r n (document_of Strict schema)) e).0 h
@@ -145,12 +146,12 @@ no_cause r n schema ds f e a (inr (h, inr (d, read, k))) =
     converted_has_none r n d f (sym (ap (is_converted r n) read.read) ∙ (both_true (are_i64 ds) (is_converted r n (document_of Strict schema)) e).1) k
 
 -- what is converted is examined
-pub examined_so : (r : Relations) (n : ℕ) (schema : Value) (ds : List Data) (d : Document) → are_i64 ds ≡ true → IsReadAs Strict schema d → faults_of r d n ≡ [] → stated_in_document r d n ≡ []
-    → unread_in_document r d n ≡ [] → is_examined r n schema ds ≡ true
+pub examined_so : (r : Relations) (n : ℕ) (schema : Value) (ds : List Data) (d : Document) → are_i64 ds ≡ true → IsReadAs Strict schema d → faults_of r d n most_levels ≡ [] → stated_in_document r d n most_levels ≡ []
+    → unread_in_document r d n most_levels ≡ [] → is_examined r n schema ds ≡ true
 examined_so r n schema ds d i read none unstated listed =
     ap (λ (b : Bool). both b (is_converted r n (document_of Strict schema))) i ∙ ap (is_converted r n) read.read
-    ∙ ap (λ (b : Bool). both b (both (is_none_of (stated_in_document r d n)) (is_none_of (unread_in_document r d n)))) (ap is_none_of none)
-    ∙ ap (λ (b : Bool). both b (is_none_of (unread_in_document r d n))) (ap is_none_of unstated) ∙ ap is_none_of listed
+    ∙ ap (λ (b : Bool). both b (both (is_none_of (stated_in_document r d n most_levels)) (is_none_of (unread_in_document r d n most_levels)))) (ap is_none_of none)
+    ∙ ap (λ (b : Bool). both b (is_none_of (unread_in_document r d n most_levels))) (ap is_none_of unstated) ∙ ap is_none_of listed
   where
     both : Bool → Bool → Bool
     both a b = a && b

@@ -23,7 +23,9 @@ module _ (c : Call) (schema : Data) (values : List Data) (parts : Parts) (same :
 
   pub caused_of : (f : Fault) → (fault_view f ≡ memory → ⊥) → IsRefusal c.texts c.depth c.before c.after (value_of schema) values (fault_view f) → IsCaused c parts f
   caused_of f other (inl m) = absurd (other m)
-  caused_of f other (inr (inl t)) = inl t
-  caused_of f other (inr (inr h)) =
-      inr (subst (λ (d : Data). IsCause c.texts c.depth (value_of d) (values_of c.command parts) (fault_view f)) (sym same)
-      (subst (λ (ds : List Data). IsCause c.texts c.depth (value_of schema) ds (fault_view f)) (sym listed) h))
+  caused_of f other (inr (inl t)) = (other, inl t)
+  caused_of f other (inr (inr h)) = (
+    other,
+    inr (subst (λ (d : Data). IsCause c.texts c.depth (value_of d) (values_of c.command parts) (fault_view f)) (sym same)
+        (subst (λ (ds : List Data). IsCause c.texts c.depth (value_of schema) ds (fault_view f)) (sym listed) h)),
+  )

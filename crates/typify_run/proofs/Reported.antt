@@ -5,7 +5,7 @@ use Rattle.syntax_trees.specs.Item.{ItemD}
 use Rattle.serde_json.specs.Data.{Data}
 use Rattle.json_value.specs.Value.{Value, IsSmall}
 use Rattle.schema_defs.specs.declared.Setting.TheVariants.{Strict}
-use Rattle.schema_defs.specs.Texts.{Relations}
+use Rattle.schema_defs.specs.Texts.{Relations, IsLawful}
 use Rattle.schema_defs.specs.Schema.{Document}
 use Rattle.attr_defs.specs.Texts.{lexed}
 use Rattle.container_defs.specs.Model.{diagnostics_of}
@@ -23,16 +23,19 @@ use Rattle.emit_defs.proofs.Acyclic.{acyclic}
 use Rattle.emit_texts.proofs.Functions.{functions_are_read}
 use Rattle.emit_texts.proofs.Types.{types_are_read_again}
 use Rattle.emit_laws.proofs.Assembled.{items_are_read, nothing_is_told}
-use Rattle.convert_defs.specs.Row.{Way, narrowed, widened, Note}
-use Rattle.convert_defs.specs.Convert.{notes_of}
-use Rattle.convert_defs.specs.Laws.{Keeps, same_way, Free}
-use Rattle.document_laws.specs.Laws.{WasRead, plan_of}
-use Rattle.document_defs.proofs.Shaped.{read_plans_are_emittable}
-use Rattle.document_defs.proofs.Composed.{documents_mean_items}
+use Rattle.convert_defs.specs.Row.{Way, narrowed, widened}
+use Rattle.convert_defs.specs.Laws.{Keeps, same_way}
+use Rattle.convert_walks.specs.Told.{Note, notes_of}
+use Rattle.merging_laws.specs.Conversion.{Free}
+use Rattle.document_laws.specs.Laws.{WasRead}
+use Rattle.row_merges.specs.Levels.{most_levels}
+use Rattle.merged_documents.specs.Laws.{plan_of}
+use Rattle.merged_documents.proofs.Shaped.{read_plans_are_emittable}
+use Rattle.merged_documents.proofs.Composed.{documents_mean_items}
 use Rattle.derive_model.specs.VerdictView.{verdict_view}
 use Rattle.typify_convert.specs.Note.{way_of, note_of}
 use Rattle.typify_convert.specs.Emitted.{emission_of}
-use Rattle.stated_laws.proofs.Converted.{unstated_documents}
+use Rattle.stated_walks.proofs.Unstated.{unstated_documents}
 use Rattle.typify_run.specs.Headline as headline
 use Rattle.typify_run.specs.Headline.{Deriving, read_of, items_of, HasNone, IsNarrowed, IsWidened, report_reads, document_admits, IsReportOf}
 use Rattle.typify_run.specs.Page.{ArePrintable}
@@ -86,13 +89,13 @@ both_ways false false h k = refl
 
 module _ (r : Relations) (d : Document) (depth : ℕ) (values : List Data) (report : Report) (w : WasRead d) (h : IsMadeOf r d depth values report) where
   abbrev plan : Table
-  plan = plan_of r d depth
+  plan = plan_of r d depth most_levels
 
   abbrev emitted : Emission
-  emitted = emission_of r d depth
+  emitted = emission_of r d depth most_levels
 
   emittable : IsEmittable plan
-  emittable = read_plans_are_emittable r d depth w
+  emittable = read_plans_are_emittable r d depth most_levels w
 
   -- however the items are read, their containers are those that are meant
   same_models : (how : Deriving) → headline.models_of how report ≡ models_of plan
@@ -111,24 +114,27 @@ module _ (r : Relations) (d : Document) (depth : ℕ) (values : List Data) (repo
       subst (AllByRecursion headline.IsClean) (sym (ap (λ (k : Emission). k.items) h.emission))
       (for_all Told emitted.items (λ how. nothing_is_told functions_are_read types_are_read_again how.variant_name how.field_name how.private how.derive plan emittable (root_of plan)))
 
-  keeps : (way : Way) → Free way (notes_of r d depth) → (how : Deriving) (v : Value) → IsSmall v → Keeps way (document_admits r d v) (report_reads r report how v)
-  keeps way free how v s =
-      subst (λ (k : Emission). Keeps way (document_admits r d v) (reads (read_of how k.items) k.conversions r (type_of k.root) v)) (sym h.emission)
-      (documents_mean_items how.variant_name how.field_name how.private how.derive way r d depth w (record { faultless = h.faultless; noteless = free }) v s)
+  abbrev told_notes : List Note
+  told_notes = notes_of r d depth most_levels
 
-  noteless : report.notes.items ≡ [] → notes_of r d depth ≡ []
-  noteless e = none_of_none note_of (notes_of r d depth) (sym h.notes ∙ e)
+  keeps : IsLawful r → (way : Way) → Free way told_notes → (how : Deriving) (v : Value) → IsSmall v → Keeps way (document_admits r d v) (report_reads r report how v)
+  keeps lawful way free how v s =
+      subst (λ (k : Emission). Keeps way (document_admits r d v) (reads (read_of how k.items) k.conversions r (type_of k.root) v)) (sym h.emission)
+      (documents_mean_items how.variant_name how.field_name how.private how.derive way r lawful d depth most_levels w (record { faultless = h.faultless; noteless = free }) v s)
+
+  noteless : report.notes.items ≡ [] → told_notes ≡ []
+  noteless e = none_of_none note_of told_notes (sym h.notes ∙ e)
 
   pub reported : (schema : Value) → IsReadAs Strict schema d → IsReportOf r schema values report
   reported schema read = record {
     document = d;
     is_read = read.read;
     clean = clean;
-    exact = λ e how v s.
+    exact = λ lawful e how v s.
         both_ways (document_admits r d v) (report_reads r report how v)
-        (keeps narrowed (free_of_none narrowed (notes_of r d depth) (noteless e)) how v s) (keeps widened (free_of_none widened (notes_of r d depth) (noteless e)) how v s);
-    not_narrower = λ n how v s. keeps narrowed (free_narrowed (notes_of r d depth) (subst (HasNone IsNarrowed) h.notes n)) how v s;
-    not_wider = λ n how v s. keeps widened (free_widened (notes_of r d depth) (subst (HasNone IsWidened) h.notes n)) how v s;
+        (keeps lawful narrowed (free_of_none narrowed told_notes (noteless e)) how v s) (keeps lawful widened (free_of_none widened told_notes (noteless e)) how v s);
+    not_narrower = λ lawful n how v s. keeps lawful narrowed (free_narrowed told_notes (subst (HasNone IsNarrowed) h.notes n)) how v s;
+    not_wider = λ lawful n how v s. keeps lawful widened (free_widened told_notes (subst (HasNone IsWidened) h.notes n)) how v s;
     verdicts = λ how.
         judged_alike (read_of as_it_stands (items_of report)) (headline.models_of how report) (conversions_view report.conversions) r (headline.root_of report) (headline.root_of report) values (map verdict_view report.verdicts.items)
         ends (same_models how ∙ sym (same_models as_it_stands)) refl h.verdicts;
@@ -137,7 +143,7 @@ module _ (r : Relations) (d : Document) (depth : ℕ) (values : List Data) (repo
   undefaulted : (conversions_view report.conversions).defaults ≡ []
   undefaulted =
       ap (λ (k : Emission). k.conversions.defaults) h.emission
-      ∙ unstated_documents r d depth (root_of plan) h.unstated
+      ∙ unstated_documents r d depth most_levels (root_of plan) h.faultless h.unstated
 
   pub all_printable : are_i64 values ≡ true → ArePrintable (map verdict_view report.verdicts.items)
   all_printable i =

@@ -11,12 +11,12 @@ use Rattle.schema_defs.specs.Read.{document_of}
 use Rattle.schema_tree.specs.Numbers.{are_i64, HasWideNumber}
 use Rattle.schema_tree.specs.Document.{IsReadAs, HasFault}
 use Rattle.schema_tree.specs.Fault.{FaultD, memory, texts}
-use Rattle.convert_defs.specs.Convert.{notes_of}
-use Rattle.convert_defs.specs.Faults.{faults_of}
+use Rattle.convert_walks.specs.Told.{faults_of, notes_of}
+use Rattle.row_merges.specs.Levels.{most_levels}
 use Rattle.typify_convert.specs.Note.{note_of}
 use Rattle.typify_convert.specs.Emitted.{emission_of}
 use Rattle.convert_trees.specs.Unread.{unread_in_document}
-use Rattle.stated_laws.specs.Stated.{stated_in_document}
+use Rattle.stated_walks.specs.Stated.{stated_in_document}
 use Rattle.typify_convert.specs.Refused as convert
 use Rattle.schema_tree.specs.Conversions.{conversions_view}
 use Rattle.attr_parts.specs.declared.derive.Derive.TheVariants.{Deserialize}
@@ -34,7 +34,7 @@ is_none_of (x ∷ xs) = false
 -- keywords
 abbrev pub is_converted : Relations → ℕ → Option Document → Bool
 is_converted r depth None = false
-is_converted r depth (Some d) = is_none_of (faults_of r d depth) && (is_none_of (stated_in_document r d depth) && is_none_of (unread_in_document r d depth))
+is_converted r depth (Some d) = is_none_of (faults_of r d depth most_levels) && (is_none_of (stated_in_document r d depth most_levels) && is_none_of (unread_in_document r d depth most_levels))
 
 -- the values' numbers are i64, and the schema is a document that is converted
 abbrev pub is_examined : Relations → ℕ → Value → List Data → Bool
@@ -42,7 +42,7 @@ is_examined r depth schema values = are_i64 values && is_converted r depth (docu
 
 -- why the document that the schema is isn't converted
 abbrev pub IsUnconverted : Relations → ℕ → Value → FaultD → Type 0
-IsUnconverted r depth schema f = (d : Document) × IsReadAs Strict schema d × convert.IsCause r d depth f
+IsUnconverted r depth schema f = (d : Document) × IsReadAs Strict schema d × convert.IsCause r d depth most_levels f
 
 -- the cause of a fault: the first number of the values that is no i64; else the first fault of the document; else why it isn't converted
 abbrev pub IsCause : Relations → ℕ → Value → List Data → FaultD → Type 0
@@ -64,23 +64,23 @@ as_it_stands = record { variant_name = λ r n. n; field_name = λ r n. n; privat
 
 -- of a document that was read: what is emitted for it, its notes, and the verdicts of the items as they are read back
 pub record IsMadeOf (r : Relations) (d : Document) (depth : ℕ) (values : List Data) (report : Report) : Type 0 where
-  pub emission : emission_in report ≡ emission_of r d depth
-  pub notes : report.notes.items ≡ map note_of (notes_of r d depth)
-  pub faultless : faults_of r d depth ≡ []
-  pub listed : unread_in_document r d depth ≡ []
-  pub unstated : stated_in_document r d depth ≡ []
+  pub emission : emission_in report ≡ emission_of r d depth most_levels
+  pub notes : report.notes.items ≡ map note_of (notes_of r d depth most_levels)
+  pub faultless : faults_of r d depth most_levels ≡ []
+  pub listed : unread_in_document r d depth most_levels ≡ []
+  pub unstated : stated_in_document r d depth most_levels ≡ []
   pub verdicts : AreVerdicts (read_of as_it_stands (items_of report)) (conversions_view report.conversions) r (root_of report) values (map verdict_view report.verdicts.items)
 
 abbrev pub IsUnreported : Relations → Document → ℕ → ℕ → ℕ → FaultD → Type 0
-IsUnreported r d depth before after f = convert.IsRefusal r d depth before after f
+IsUnreported r d depth before after f = convert.IsRefusal r d depth most_levels before after f
 
 -- The report is of what is emitted for the document that the schema is: the items, the table of conversions and the root's type are the emission of the
 -- table of its entries, and the notes are its notes, in their order. Its schemas have no fault and state no default at an optional property, which would have to be checked, and each listed value is read.
 pub record IsEmission (r : Relations) (depth : ℕ) (schema : Value) (report : Report) : Type 0 where
   pub document : Document
   pub is_read : IsReadAs Strict schema document
-  pub emission : emission_in report ≡ emission_of r document depth
-  pub notes : report.notes.items ≡ map note_of (notes_of r document depth)
-  pub faultless : faults_of r document depth ≡ []
-  pub listed : unread_in_document r document depth ≡ []
-  pub unstated : stated_in_document r document depth ≡ []
+  pub emission : emission_in report ≡ emission_of r document depth most_levels
+  pub notes : report.notes.items ≡ map note_of (notes_of r document depth most_levels)
+  pub faultless : faults_of r document depth most_levels ≡ []
+  pub listed : unread_in_document r document depth most_levels ≡ []
+  pub unstated : stated_in_document r document depth most_levels ≡ []

@@ -9,7 +9,7 @@ use Rattle.json_value.specs.Value.{Value, IsSmall}
 use Rattle.json_value.specs.View.{value_of}
 use Rattle.schema_defs.specs.Location.{Location}
 use Rattle.schema_defs.specs.declared.Setting.TheVariants.{Strict}
-use Rattle.schema_defs.specs.Texts.{Relations}
+use Rattle.schema_defs.specs.Texts.{Relations, IsLawful}
 use Rattle.schema_defs.specs.Schema.{Document}
 use Rattle.schema_defs.specs.Admits.{admits}
 use Rattle.schema_defs.specs.Read.{document_of}
@@ -101,10 +101,10 @@ pub record IsReportOf (texts : Relations) (schema : Value) (values : List Data) 
   pub is_read : document_of Strict schema ≡ Some document
   -- the items have no diagnostic
   pub clean : AllByRecursion IsClean (items_of r)
-  -- without notes the containers read exactly the small values that the document admits, listed or not
-  pub exact : r.notes.items ≡ [] → (how : Deriving) (v : Value) → IsSmall v → report_reads texts r how v ≡ document_admits texts document v
+  -- by lawful texts: without notes the containers read exactly the small values that the document admits, listed or not
+  pub exact : IsLawful texts → r.notes.items ≡ [] → (how : Deriving) (v : Value) → IsSmall v → report_reads texts r how v ≡ document_admits texts document v
   -- without a note that they are narrower, they read each that is admitted; without one that they are wider, those alone
-  pub not_narrower : HasNone IsNarrowed r.notes.items → (how : Deriving) (v : Value) → IsSmall v → document_admits texts document v ≡ true → report_reads texts r how v ≡ true
-  pub not_wider : HasNone IsWidened r.notes.items → (how : Deriving) (v : Value) → IsSmall v → report_reads texts r how v ≡ true → document_admits texts document v ≡ true
+  pub not_narrower : IsLawful texts → HasNone IsNarrowed r.notes.items → (how : Deriving) (v : Value) → IsSmall v → document_admits texts document v ≡ true → report_reads texts r how v ≡ true
+  pub not_wider : IsLawful texts → HasNone IsWidened r.notes.items → (how : Deriving) (v : Value) → IsSmall v → report_reads texts r how v ≡ true → document_admits texts document v ≡ true
   -- the verdicts are those of the containers
   pub verdicts : (how : Deriving) → AreJudged (report_reads texts r how) (report_settles texts r how) (report_refuses texts r how) values (map verdict_view r.verdicts.items)

@@ -1,10 +1,10 @@
 -- What each status of a run says: of the input, of the bytes that were written, and of what is carried.
-use Rattle.std.specs.Prelude.{◌≡◌, ◌⊎◌, ℕ, zero, suc, List, [], Bool, true, Option, Some, None}
+use Rattle.std.specs.Prelude.{◌≡◌, ◌≢◌, ◌⊎◌, ℕ, zero, suc, List, [], Bool, true, Option, Some, None}
 use Rattle.serde_json.specs.Data.{Data}
 use Rattle.run_io.specs.Bytes.{Appends, AppendsPrefix}
 use Rattle.json_value.specs.View.{value_of}
 use Rattle.schema_tree.specs.Document.{IsAccepted}
-use Rattle.schema_tree.specs.Fault.{FaultD, fault_view, fault_line}
+use Rattle.schema_tree.specs.Fault.{FaultD, memory, fault_view, fault_line}
 use Rattle.schema_tree.specs.declared.fault.Fault.{Fault}
 use Rattle.run_input.specs.Input.{Parts, IsInput, IsNoInput, data_of}
 use Rattle.typify_run.specs.Headline.{IsReportOf}
@@ -35,9 +35,9 @@ IsReported c parts r = IsReportOf c.texts (value_of parts.schema) (values_of c.c
 abbrev pub IsCauseIn : Call → Parts → FaultD → Type 0
 IsCauseIn c parts f = IsCause c.texts c.depth (value_of parts.schema) (values_of c.command parts) f
 
--- or the judge of texts failed, whose count rose
+-- or the judge of texts failed, whose count rose; want of memory is told by its own status
 abbrev pub IsCaused : Call → Parts → Fault → Type 0
-IsCaused c parts f = IsTextsFault c.before c.after (fault_view f) ⊎ IsCauseIn c parts (fault_view f)
+IsCaused c parts f = (fault_view f ≢ memory) × (IsTextsFault c.before c.after (fault_view f) ⊎ IsCauseIn c parts (fault_view f))
 
 abbrev pub line_of : Fault → List ℕ
 line_of f = fault_line (fault_view f)

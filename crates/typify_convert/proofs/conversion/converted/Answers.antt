@@ -1,59 +1,53 @@
-use Rattle.std.proofs.Common.{sym, ap, subst, ◌∙◌}
-use Rattle.entry_defs.specs.Sound.{IsSound}
-use Rattle.entry_defs.specs.Table.{Table, root_of}
-use Rattle.naming_defs.specs.Names.{named_table}
-use Rattle.naming_defs.specs.Good.{is_good_name}
-use Rattle.emit_defs.specs.Emission.{emission}
+use Rattle.std.proofs.Common.{◌≡◌, ℕ, [], map, subst}
+use Rattle.std.specs.Prelude.{IfErr, IfOk, OnOk}
 use Rattle.schema_tree.specs.Document.{view as document_seen}
-use Rattle.space_trees.specs.Formed.{IsFormed}
-use Rattle.document_laws.specs.Laws.{plan_of}
-use Rattle.convert_defs.specs.Row.{Note}
-use Rattle.convert_defs.specs.Order.{ordered}
-use Rattle.std.proofs.Common.{List, map, option_map}
+use Rattle.schema_tree.specs.Fault.{fault_view}
+use Rattle.convert_walks.specs.Told.{faults_of, notes_of}
 use Rattle.convert_trees.specs.Unread.{unread_in_document}
-use Rattle.convert_trees.specs.Keeping.{unread_view}
-use Rattle.convert_trees.proofs.Here.{if_err}
-use Rattle.typify_convert.proofs.Firsts.{all_read, unread_refused}
+use Rattle.stated_walks.specs.Stated.{stated_in_document}
+use Rattle.typify_convert.specs.Emitted.{emission_of, emitted_view}
 use Rattle.typify_convert.specs.Note.{note_of}
+use Rattle.typify_convert.specs.Refused.{IsRefusal}
 use Rattle.typify_convert.proofs.conversion.converted.Goals as goal
 
-pub from_table-requires-clause-sound : goal.from_table-requires-clause-sound
-from_table-requires-clause-sound g c =
-    let r = g.T.Texts.relations c.args.texts.now in
-    subst (λ (t : Table). IsSound (named_table is_good_name t)) (sym c.in_ok-converted.ensures.table)
-    (c.read_documents_are_planned.ensures r (document_seen c.args.document.now) c.args.depth c.requires).sound
-
-pub from_table-requires-clause-formed : goal.from_table-requires-clause-formed
-from_table-requires-clause-formed g c =
-    let r = g.T.Texts.relations c.args.texts.now in
-    subst (λ (t : Table). IsFormed (named_table is_good_name t)) (sym c.in_ok-converted.ensures.table)
-    (c.plans_are_formed.ensures r (document_seen c.args.document.now) c.args.depth)
-
-pub returns-in-Ok-clause-emission : goal.returns-in-Ok-clause-emission
-returns-in-Ok-clause-emission g c =
-    c.in-Ok.ensures.emission
-    ∙ ap (λ (t : Table). emission (named_table is_good_name t) (root_of (named_table is_good_name t))) c.in_ok-converted.ensures.table
-
-pub returns-in-Ok-clause-notes : goal.returns-in-Ok-clause-notes
-returns-in-Ok-clause-notes g c =
-    c.in-Ok.ensures.notes
-    ∙ ap (λ (ns : List Note). map note_of (ordered ns)) c.in_ok-converted.ensures.notes
-
-pub returns-in-Ok-clause-built : goal.returns-in-Ok-clause-built
-returns-in-Ok-clause-built g c =
+pub returns-clause-emission : goal.returns-clause-emission
+returns-clause-emission g c =
     let r = g.T.Texts.relations c.args.texts.now in
     let d = document_seen c.args.document.now in
-    c.unstated_documents.ensures r d c.args.depth (root_of (plan_of r d c.args.depth)) c.in_ok-converted.ensures.stated
+    subst (λ (n : ℕ). IfOk c.converted_within.result (λ e. emitted_view e ≡ emission_of r d c.args.depth n)) c.levels-most.ensures c.converted_within.ensures.emission
 
-pub returns-in-Ok-clause-read : goal.returns-in-Ok-clause-read
-returns-in-Ok-clause-read g c =
+pub returns-clause-notes : goal.returns-clause-notes
+returns-clause-notes g c =
     let r = g.T.Texts.relations c.args.texts.now in
     let d = document_seen c.args.document.now in
-    all_read r d c.args.depth (unread_in_document r d c.args.depth) (sym (ap (option_map unread_view) c.in_ok-check_read.ensures.read) ∙ c.in_ok-converted.ensures.unread)
+    subst (λ (n : ℕ). IfOk c.converted_within.result (λ e. e.notes.items ≡ map note_of (notes_of r d c.args.depth n))) c.levels-most.ensures c.converted_within.ensures.notes
 
-pub returns-in_err-check_read-clause-refused : goal.returns-in_err-check_read-clause-refused
-returns-in_err-check_read-clause-refused g c =
+pub returns-clause-faultless : goal.returns-clause-faultless
+returns-clause-faultless g c =
     let r = g.T.Texts.relations c.args.texts.now in
     let d = document_seen c.args.document.now in
-    if_err c.from_residual-in_err-check_read.result c.in_err-check_read.field-0.0 _ c.from_residual-in_err-check_read.ensures.1
-    (unread_refused r d c.args.depth _ _ _ (option_map unread_view c.in_ok-converted.converted.unread) c.in_ok-converted.ensures.faultless c.in_ok-converted.ensures.stated c.in_ok-converted.ensures.unread c.in_err-check_read.ensures.told)
+    subst (λ (n : ℕ). OnOk c.converted_within.result (faults_of r d c.args.depth n ≡ [])) c.levels-most.ensures c.converted_within.ensures.faultless
+
+pub returns-clause-read : goal.returns-clause-read
+returns-clause-read g c =
+    let r = g.T.Texts.relations c.args.texts.now in
+    let d = document_seen c.args.document.now in
+    subst (λ (n : ℕ). OnOk c.converted_within.result (unread_in_document r d c.args.depth n ≡ [])) c.levels-most.ensures c.converted_within.ensures.read
+
+pub returns-clause-unstated : goal.returns-clause-unstated
+returns-clause-unstated g c =
+    let r = g.T.Texts.relations c.args.texts.now in
+    let d = document_seen c.args.document.now in
+    subst (λ (n : ℕ). OnOk c.converted_within.result (stated_in_document r d c.args.depth n ≡ [])) c.levels-most.ensures c.converted_within.ensures.unstated
+
+pub returns-clause-built : goal.returns-clause-built
+returns-clause-built g c =
+    let r = g.T.Texts.relations c.args.texts.now in
+    let d = document_seen c.args.document.now in
+    subst (λ (n : ℕ). OnOk c.converted_within.result ((emission_of r d c.args.depth n).conversions.defaults ≡ [])) c.levels-most.ensures c.converted_within.ensures.built
+
+pub returns-clause-refused : goal.returns-clause-refused
+returns-clause-refused g c =
+    let r = g.T.Texts.relations c.args.texts.now in
+    let d = document_seen c.args.document.now in
+    subst (λ (n : ℕ). IfErr c.converted_within.result (λ f. IsRefusal r d c.args.depth n (g.T.Texts.faults c.args.texts.now) (g.T.Texts.faults c.converted_within.new.texts) (fault_view f))) c.levels-most.ensures c.converted_within.ensures.refused

@@ -6,7 +6,6 @@ use Rattle.serde_json.specs.View.{view}
 use Rattle.schema_defs.specs.Texts.{Relations}
 use Rattle.model_defs.specs.Types.{type_of}
 use Rattle.schema_tree.specs.Conversions.{conversions_view}
-use Rattle.schema_tree.specs.Document.{view as document_seen}
 use Rattle.emit_defs.specs.Emission.{Emission}
 use Rattle.derive_model.specs.VerdictView.{verdict_view}
 use Rattle.typify_run.specs.Headline.{read_of}
