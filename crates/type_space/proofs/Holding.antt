@@ -5,17 +5,18 @@ use Rattle.schema_defs.specs.Schema.{Document}
 use Rattle.entry_defs.specs.Entry.{Target, Entry}
 use Rattle.entry_defs.specs.Space.{Id}
 use Rattle.entry_defs.specs.Table.{Table}
-use Rattle.entry_trees.specs.View.{table_view}
-use Rattle.convert_defs.specs.Row.{Note}
-use Rattle.convert_defs.specs.Convert.{Node, notes_in}
+use Rattle.convert_walks.specs.Tree.{Node}
+use Rattle.convert_walks.specs.Told.{Note, notes_in}
 use Rattle.note_order.specs.Notes.{notes_view}
 use Rattle.convert_trees.specs.Unread.{At, first_kept, unread_listed}
 use Rattle.space_trees.specs.Leading.{found_led}
 use Rattle.space_trees.specs.Placed.{rest_or_first}
-use Rattle.type_space.specs.Placing.{Plans, PlansMore, led_alone, next_id, target_id}
+use Rattle.history_laws.specs.Placing.{led_alone, next_id, target_id}
+use Rattle.type_space.specs.Placing.{Plans, PlansMore}
 use Rattle.type_space.specs.Kept.{FoundOf, listed_view, or_kept}
 use Rattle.type_space.specs.Space.{History, nothing, Keeps}
-use Rattle.type_space.specs.Added.{with_nodes, with_targets, target_nodes, targets_table, KeepsMore}
+use Rattle.history_laws.specs.Added.{target_nodes, targets_table}
+use Rattle.type_space.specs.Added.{with_nodes, with_targets, KeepsMore}
 use Rattle.type_space.specs.declared.keeping.Held.{Held}
 
 kept-both : (us vs : List At) → or_kept (first_kept None us) (first_kept None vs) ≡ first_kept None (us ++ vs)
@@ -24,49 +25,49 @@ kept-both (u ∷ us) vs = refl
 
 -- ---- notes and listed values behind others
 
-module _ (r : Relations) (d : Document) (depth : ℕ) (ts : List Node) (t : Table) (ns : List Note) (u : Option At) (found : FoundOf r d depth t ts ns u) (k l : Held) (h : History) (keeps : Keeps k h)
+module _ (r : Relations) (d : Document) (most n : ℕ) (ts : List Node) (t : Table) (ns : List Note) (u : Option At) (found : FoundOf r d most n (Some t) ts ns u) (k l : Held) (h : History) (keeps : Keeps k h)
     (notes : notes_view l.notes.items ≡ notes_view k.notes.items ++ ns) (unread : option_map listed_view l.unread ≡ or_kept (option_map listed_view k.unread) u) where
-  more-notes : notes_view l.notes.items ≡ h.notes ++ notes_in r d ts
+  more-notes : notes_view l.notes.items ≡ h.notes ++ notes_in r d most n ts
   more-notes = notes ∙ (λ i. keeps.notes i ++ found.noted i)
 
   more-unread : option_map listed_view l.unread ≡ first_kept None (h.unread ++ unread_listed r (Some t) d ts)
   more-unread = unread ∙ (λ i. or_kept (keeps.unread i) (found.unread i)) ∙ kept-both h.unread (unread_listed r (Some t) d ts)
 
-module _ (r : Relations) (d : Document) (depth : ℕ) (k l : Held) (h : History) (ns : List Note) (u : Option At) where
-  pub tree_held : (ts : List Node) → FoundOf r d depth (led_alone h.table) ts ns u → Keeps k h → notes_view l.notes.items ≡ notes_view k.notes.items ++ ns
-      → option_map listed_view l.unread ≡ or_kept (option_map listed_view k.unread) u → table_view l.known ≡ table_view k.known → (e : Entry) (i : Id) → ((t : Table) → Plans k.plan t → PlansMore l.plan t e i)
-      → KeepsMore l i (with_nodes r d e ts h, next_id h.table e)
-  tree_held ts found keeps notes unread same e i place =
+module _ (r : Relations) (d : Document) (most n : ℕ) (k l : Held) (h : History) (ns : List Note) (u : Option At) where
+  abbrev all : Table
+  all = targets_table r d most n
+
+  pub tree_held : (ts : List Node) → FoundOf r d most n (Some all) ts ns u → Keeps k h → notes_view l.notes.items ≡ notes_view k.notes.items ++ ns
+      → option_map listed_view l.unread ≡ or_kept (option_map listed_view k.unread) u → (e : Entry) (i : Id) → ((t : Table) → Plans k.plan t → PlansMore l.plan t e i)
+      → KeepsMore l i (with_nodes r d most n e ts h, next_id h.table e)
+  tree_held ts found keeps notes unread e i place =
       let p = place h.table keeps.plans in
-      let t = led_alone h.table in
       record {
         keeps = record {
           plans = p.plans;
-          known = same ∙ keeps.known;
-          notes = more-notes r d depth ts t ns u found k l h keeps notes unread;
-          unread = more-unread r d depth ts t ns u found k l h keeps notes unread;
+          notes = more-notes r d most n ts all ns u found k l h keeps notes unread;
+          unread = more-unread r d most n ts all ns u found k l h keeps notes unread;
         };
         id = p.id;
       }
 
-  pub targets_held : (t : Table) → t ≡ targets_table r d depth → FoundOf r d depth t (target_nodes r d depth) ns u → Keeps k h → notes_view l.notes.items ≡ notes_view k.notes.items ++ ns
-      → option_map listed_view l.unread ≡ or_kept (option_map listed_view k.unread) u → table_view l.known ≡ t → Plans l.plan (led_alone t) → Keeps l (with_targets r d depth h)
-  targets_held t e found keeps notes unread is p =
-      let all = targets_table r d depth in
-      let of_all = subst (λ (t : Table). FoundOf r d depth t (target_nodes r d depth) ns u) e found in
+  pub targets_held : (t : Table) → t ≡ all → FoundOf r d most n (Some t) (target_nodes r d most n) ns u → Keeps k h → notes_view l.notes.items ≡ notes_view k.notes.items ++ ns
+      → option_map listed_view l.unread ≡ or_kept (option_map listed_view k.unread) u → Plans l.plan (led_alone t) → Keeps l (with_targets r d most n h)
+  targets_held t e found keeps notes unread p =
+      let of_all = subst (λ (t : Table). FoundOf r d most n (Some t) (target_nodes r d most n) ns u) e found in
       record {
         plans = subst (λ (t : Table). Plans l.plan (led_alone t)) e p;
-        known = is ∙ e;
-        notes = more-notes r d depth (target_nodes r d depth) all ns u of_all k l h keeps notes unread;
-        unread = more-unread r d depth (target_nodes r d depth) all ns u of_all k l h keeps notes unread;
+        notes = more-notes r d most n (target_nodes r d most n) all ns u of_all k l h keeps notes unread;
+        unread = more-unread r d most n (target_nodes r d most n) all ns u of_all k l h keeps notes unread;
       }
 
-  -- by the items that are kept
-  pub found_by : (ts : List Node) → Keeps k h → FoundOf r d depth (table_view k.known) ts ns u → FoundOf r d depth (led_alone h.table) ts ns u
-  found_by ts keeps found = subst (λ (t : Table). FoundOf r d depth t ts ns u) keeps.known found
+module _ (r : Relations) (d : Document) (most n : ℕ) (l : Held) (h : History) where
+  -- of a tree that is seen as another
+  pub same_entry : (ts : List Node) (i : Id) (x y : Entry) → x ≡ y → KeepsMore l i (with_nodes r d most n x ts h, next_id h.table x) → KeepsMore l i (with_nodes r d most n y ts h, next_id h.table y)
+  same_entry ts i x y e more = subst (λ (z : Entry). KeepsMore l i (with_nodes r d most n z ts h, next_id h.table z)) e more
 
-pub nothing_held : (k : Held) → Plans k.plan (record { targets = []; trees = [] }) → table_view k.known ≡ record { targets = []; trees = [] } → k.notes.items ≡ [] → k.unread ≡ None → Keeps k nothing
-nothing_held k p t n u = record { plans = p; known = t; notes = ap notes_view n; unread = ap (option_map listed_view) u }
+pub nothing_held : (k : Held) → Plans k.plan (record { targets = []; trees = [] }) → k.notes.items ≡ [] → k.unread ≡ None → Keeps k nothing
+nothing_held k p n u = record { plans = p; notes = ap notes_view n; unread = ap (option_map listed_view) u }
 
 -- ---- the id of a target
 

@@ -4,3 +4,4 @@ pub mod Standing
 pub mod Holding
 pub mod Told
 pub mod Refusals
+pub mod Coming

@@ -7,7 +7,7 @@ use Rattle.schema_defs.specs.Schema.{Schema, Definition, Document}
 use Rattle.schema_defs.specs.Admits.{defined, definition_word}
 use Rattle.schema_defs.specs.Children.{Node, at_schema, along, definition_node, node_schema, schema_at}
 use Rattle.entry_defs.specs.Entry.{Target, definition}
-use Rattle.type_space.specs.Added.{definition_at}
+use Rattle.history_laws.specs.Added.{definition_at}
 
 abbrev either : Bool → List ℕ → Option Target
 either b n = if b then Some (definition n) else None

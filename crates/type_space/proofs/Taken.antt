@@ -1,7 +1,7 @@
 -- Notes behind others, one after another.
 use Rattle.std.proofs.Common.{◌≡◌, List, [], ◌∷◌, ◌++◌, sym, ap, ◌∙◌, append_assoc, append-nil}
 use Rattle.std.proofs.lemmas.List.{map-append}
-use Rattle.convert_defs.specs.Row.{Note}
+use Rattle.convert_walks.specs.Told.{Note}
 use Rattle.note_order.specs.Notes.{placed_view, notes_view}
 use Rattle.note_order.specs.declared.note.PlacedNote.{PlacedNote}
 

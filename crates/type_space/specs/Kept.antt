@@ -4,8 +4,9 @@ use Rattle.schema_defs.specs.Texts.{Relations}
 use Rattle.schema_defs.specs.Schema.{Document}
 use Rattle.schema_types.specs.View.{kept_view as value_kept}
 use Rattle.entry_defs.specs.Table.{Table}
-use Rattle.convert_defs.specs.Row.{Note}
-use Rattle.convert_defs.specs.Convert.{Node, notes_in}
+use Rattle.convert_walks.specs.Tree.{Node}
+use Rattle.convert_walks.specs.Told.{Note, notes_in}
+use Rattle.row_merges.specs.Merges.{MergeD}
 use Rattle.convert_trees.specs.Unread.{At, first_kept, unread_listed}
 use Rattle.convert_trees.specs.Keeping.{KeptD}
 use Rattle.convert_trees.specs.Told.{AreFine}
@@ -19,12 +20,12 @@ abbrev pub or_kept : Option At → Option At → Option At
 or_kept None b = b
 or_kept (Some a) b = Some a
 
--- nothing yet, where listed values are asked by that table
-abbrev pub none_kept : Option Table → KeptD
-none_kept k = record { notes = []; values = record { known = k; unread = None } }
+-- nothing yet, where listed values are asked by that table, and these merges are left
+abbrev pub none_kept : Option Table → List MergeD → KeptD
+none_kept k ms = record { notes = []; values = record { known = k; unread = None }; merges = ms }
 
--- neither a fault nor a stated default, the notes, and the first listed value that isn't read by the table
-pub record FoundOf (r : Relations) (d : Document) (most : ℕ) (t : Table) (ts : List Node) (notes : List Note) (first : Option At) : Type 0 where
-  pub fine : AreFine r d most ts
-  pub noted : notes ≡ notes_in r d ts
-  pub unread : first ≡ first_kept None (unread_listed r (Some t) d ts)
+-- neither a fault nor a stated default, the notes, and the first listed value that isn't read by the table; without one, the first that is listed
+pub record FoundOf (r : Relations) (d : Document) (most n : ℕ) (k : Option Table) (ts : List Node) (notes : List Note) (first : Option At) : Type 0 where
+  pub fine : AreFine r d most n ts
+  pub noted : notes ≡ notes_in r d most n ts
+  pub unread : first ≡ first_kept None (unread_listed r k d ts)

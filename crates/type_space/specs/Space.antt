@@ -3,14 +3,13 @@ use Rattle.std.specs.Prelude.{◌≡◌, ℕ, List, [], Option, None, Bool, opti
 use Rattle.schema_defs.specs.Schema.{Document}
 use Rattle.entry_defs.specs.Space as space
 use Rattle.entry_defs.specs.Table.{Table}
-use Rattle.entry_trees.specs.View.{table_view}
-use Rattle.convert_defs.specs.Row.{Note}
+use Rattle.convert_walks.specs.Told.{Note}
 use Rattle.schema_tree.specs.Document.{view as document_seen}
 use Rattle.schema_tree.specs.Fault.{FaultD, fault_view}
 use Rattle.note_order.specs.Notes.{notes_view}
 use Rattle.convert_trees.specs.Unread.{At, first_kept}
 use Rattle.entry_space.specs.Seen.{seen}
-use Rattle.type_space.specs.Placing.{Plans, led_alone}
+use Rattle.type_space.specs.Placing.{Plans}
 use Rattle.type_space.specs.declared.keeping.Held.{Held}
 use Rattle.type_space.specs.Kept.{listed_view}
 use Rattle.type_space.specs.declared.space.TypeSpace.{TypeSpace}
@@ -24,11 +23,9 @@ pub record History : Type 0 where
 abbrev pub nothing : History
 nothing = record { table = record { targets = []; trees = [] }; notes = []; unread = [] }
 
--- the entries are those of the table, which gets its names; the items that references lead to are kept as they were, the notes, and the first of
--- the listed values
+-- the entries are those of the table, which gets its names; the notes are kept, and the first of the listed values
 pub record Keeps (k : Held) (h : History) : Type 0 where
   pub plans : Plans k.plan h.table
-  pub known : table_view k.known ≡ led_alone h.table
   pub notes : notes_view k.notes.items ≡ h.notes
   pub unread : option_map listed_view k.unread ≡ first_kept None h.unread
 

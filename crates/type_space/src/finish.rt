@@ -1,7 +1,7 @@
 //! A space that is given up: what is emitted for it.
 ghost use Rattle.std.specs.Prelude.{◌≡◌, ◌⊎◌, Some, None, IfErr, IfOk, OnOk, map, option_map};
 ghost use Rattle.schema_tree.specs.Fault.{fault_view, memory};
-ghost use Rattle.convert_defs.specs.Order.{ordered};
+ghost use Rattle.convert_walks.specs.Told.{ordered};
 ghost use Rattle.entry_space.specs.Seen.{seen};
 ghost use Rattle.entry_types.specs.View.{id_view};
 ghost use Rattle.note_order.specs.Notes.{notes_view};
@@ -61,15 +61,14 @@ fn ended(
 }
 
 /// The first listed value that isn't read, or else what is emitted, with the notes in their order.
-pub(crate) fn finished(alloc: Global, held: Held<'_>, root: TypeId) -> Result<Emitted, Fault>
-    ensures emission { IfOk result (λ e. emitted_view e ≡ emission_at (seen held.entry.plan.space) (id_view root)) }
-    ensures notes { IfOk result (λ e. e.notes.items ≡ map note_of (ordered (notes_view held.entry.notes.items))) }
-    ensures read { OnOk result (option_map listed_view held.entry.unread ≡ None) }
-    ensures refused { IfErr result (λ f. (fault_view f ≡ memory) ⊎ IsFirstUnread (option_map listed_view held.entry.unread) (fault_view f)) }
+pub(crate) fn finished(alloc: Global, held: Held, root: TypeId) -> Result<Emitted, Fault>
+    ensures emission { IfOk result (λ e. emitted_view e ≡ emission_at (seen held.plan.space) (id_view root)) }
+    ensures notes { IfOk result (λ e. e.notes.items ≡ map note_of (ordered (notes_view held.notes.items))) }
+    ensures read { OnOk result (option_map listed_view held.unread ≡ None) }
+    ensures refused { IfErr result (λ f. (fault_view f ≡ memory) ⊎ IsFirstUnread (option_map listed_view held.unread) (fault_view f)) }
 {
     let Held {
         plan,
-        known: _known,
         notes,
         unread,
     } = held;

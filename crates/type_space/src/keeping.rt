@@ -1,16 +1,14 @@
 //! What a space keeps beside its entries.
-ghost use Rattle.std.specs.Prelude.{◌≡◌, ◌++◌, [], None, IfOk, OnOk, map, option_map};
-ghost use Rattle.entry_trees.specs.View.{table_view, target_entry};
+ghost use Rattle.std.specs.Prelude.{◌≡◌, ◌++◌, IfOk, OnOk, option_map};
 ghost use Rattle.note_order.specs.Notes.{notes_view};
 ghost use Rattle.convert_trees.specs.Keeping.{unread_view};
 ghost use Rattle.type_space.specs.Kept.{listed_view, or_kept};
 
 use crate::plan::Plan;
 use convert_trees::{PlacedNote, Unread};
-use entry_trees::{Target, Tree, TreeTable};
 use schema_tree::Location;
 use serde_json::Value;
-use std::alloc::{AllocError, Global};
+use std::alloc::AllocError;
 
 /// A listed value that its schema's other keywords don't read, with the place of the schema.
 #[derive(Drop)]
@@ -19,24 +17,13 @@ pub(crate) struct Listed {
     pub value: Value,
 }
 
-/// The entries with the names that are given, the items that references lead to as they were converted, the notes in the order of
-/// conversion, and the first listed value that isn't read.
+/// The entries with the names that are given, the notes in the order of conversion, and the first listed value that isn't read. Nothing here
+/// borrows from what conversion merges.
 #[derive(Drop)]
-pub(crate) struct Held<'d> {
+pub(crate) struct Held {
     pub plan: Plan,
-    pub known: TreeTable<'d>,
     pub notes: Vec<PlacedNote>,
     pub unread: Option<Listed>,
-}
-
-/// The items that references lead to, and nothing that uses them. It takes no memory.
-pub(crate) fn alone<'d>(alloc: Global, targets: Vec<(Target, Tree<'d>)>) -> TreeTable<'d>
-    ensures { table_view result ≡ record { targets = map target_entry targets.entry.items; trees = [] } }
-{
-    TreeTable {
-        targets,
-        trees: Vec::new(alloc),
-    }
 }
 
 /// More notes, behind those that are there.

@@ -3,7 +3,9 @@
 
 mod collect;
 mod finish;
+mod gather;
 mod keeping;
+pub mod laws;
 mod plan;
 mod refusing;
 mod schema;

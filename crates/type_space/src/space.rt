@@ -4,8 +4,9 @@ ghost use Rattle.std.specs.List.{IsDistinct};
 ghost use Rattle.schema_defs.specs.Children.{schema_at};
 ghost use Rattle.schema_tree.specs.Document.{view as document_seen};
 ghost use Rattle.schema_tree.specs.Fault.{FaultD, fault_view};
-ghost use Rattle.convert_defs.specs.Order.{ordered};
-ghost use Rattle.convert_trees.specs.Told.{AreFine, Refuses, RefusesAll};
+ghost use Rattle.convert_walks.specs.Told.{ordered};
+ghost use Rattle.convert_trees.specs.Told.{AreFine, Refuses};
+ghost use Rattle.row_merges.specs.Levels.{most_levels};
 ghost use Rattle.entry_defs.specs.Space.{entry_at};
 ghost use Rattle.entry_types.specs.View.{id_view, entry_view};
 ghost use Rattle.entry_space.specs.Keys.{same_key};
@@ -14,16 +15,18 @@ ghost use Rattle.space_defs.specs.Emission.{emission_at};
 ghost use Rattle.typify_convert.specs.Emitted.{emitted_view};
 ghost use Rattle.typify_convert.specs.Note.{note_of};
 ghost use Rattle.type_space.specs.Space.{History, Holds, IsOfSame, depth_in, document_in, entries_in, is_begun, nothing, refusal_in};
-ghost use Rattle.type_space.specs.Added.{Adds, added, added_nodes, target_nodes, with_targets};
+ghost use Rattle.history_laws.specs.Added.{target_nodes};
+ghost use Rattle.type_space.specs.Added.{Adds, added, added_nodes, met_nodes, with_targets};
 ghost use Rattle.type_space.specs.Refused.{IsRefusal, IsUnread};
 
 use crate::collect::add_targets;
 use crate::finish::finished;
-use crate::keeping::{Held, alone};
+use crate::keeping::Held;
 use crate::plan::empty_plan;
 use crate::refusing::{check, keep};
 use crate::schema::add_schema;
 use entry_space::{TypeEntries, TypeEntry, TypeId};
+use row_merges::levels;
 use schema_tree::{Document, Fault, Location, Texts};
 use std::alloc::Global;
 use typify_convert::Emitted;
@@ -37,7 +40,7 @@ pub struct TypeSpace<'d> {
     pub(crate) document: &'d Document,
     pub(crate) depth: u32,
     pub(crate) begun: bool,
-    pub(crate) held: Held<'d>,
+    pub(crate) held: Held,
     pub(crate) refusal: Option<Fault>,
 }
 
@@ -59,7 +62,6 @@ impl<'d> TypeSpace<'d> {
             begun: false,
             held: Held {
                 plan: empty_plan(alloc),
-                known: alone(alloc, Vec::new(alloc)),
                 notes: Vec::new(alloc),
                 unread: None,
             },
@@ -71,9 +73,27 @@ impl<'d> TypeSpace<'d> {
     /// Refused is the first fault in that order, each schema before its parts.
     pub fn add_ref_types<T: Texts>(&mut self, texts: &mut T) -> Result<(), Fault>
         requires begins { is_begun self.old ≡ false }
-        ensures added { OnOk result ((h : History) → Holds self.old h → Holds self.new (with_targets (T.relations texts.old) (document_in self.old) (depth_in self.old) h)) }
-        ensures fine { OnOk result (AreFine (T.relations texts.old) (document_in self.old) (depth_in self.old) (target_nodes (T.relations texts.old) (document_in self.old) (depth_in self.old))) }
-        ensures refused { IfErr result (λ f. IsRefusal (refusal_in self.old) (RefusesAll (T.relations texts.old) (document_in self.old) (depth_in self.old) (T.faults texts.old) (T.faults texts.new) (target_nodes (T.relations texts.old) (document_in self.old) (depth_in self.old))) (fault_view f)) }
+        ensures added { OnOk result ((h : History) → Holds self.old h → Holds self.new (with_targets (T.relations texts.old) (document_in self.old) (depth_in self.old) most_levels h)) }
+        ensures fine { OnOk result (AreFine (T.relations texts.old) (document_in self.old) (depth_in self.old) most_levels (target_nodes (T.relations texts.old) (document_in self.old) (depth_in self.old) most_levels)) }
+        ensures refused { IfErr result (λ f. IsRefusal (refusal_in self.old) (Refuses (T.relations texts.old) (document_in self.old) (depth_in self.old) most_levels (T.faults texts.old) (T.faults texts.new) (target_nodes (T.relations texts.old) (document_in self.old) (depth_in self.old) most_levels)) (fault_view f)) }
+        ensures kept { IfErr result (λ f. refusal_in self.new ≡ Some (fault_view f)) }
+        ensures before { OnOk result (refusal_in self.old ≡ None) }
+        ensures after { OnOk result (refusal_in self.new ≡ None) }
+        ensures begun { is_begun self.new ≡ true }
+        ensures same { IsOfSame self.old self.new }
+        ensures keeps { T.relations texts.new ≡ T.relations texts.old }
+        ensures counts { T.faults texts.old ≤ T.faults texts.new }
+    {
+        let most = levels();
+        self.ref_types_within(most, texts)
+    }
+
+    // The same, where so many schemas may stand in one another.
+    fn ref_types_within<T: Texts>(&mut self, levels: u32, texts: &mut T) -> Result<(), Fault>
+        requires begins { is_begun self.old ≡ false }
+        ensures added { OnOk result ((h : History) → Holds self.old h → Holds self.new (with_targets (T.relations texts.old) (document_in self.old) (depth_in self.old) levels h)) }
+        ensures fine { OnOk result (AreFine (T.relations texts.old) (document_in self.old) (depth_in self.old) levels (target_nodes (T.relations texts.old) (document_in self.old) (depth_in self.old) levels)) }
+        ensures refused { IfErr result (λ f. IsRefusal (refusal_in self.old) (Refuses (T.relations texts.old) (document_in self.old) (depth_in self.old) levels (T.faults texts.old) (T.faults texts.new) (target_nodes (T.relations texts.old) (document_in self.old) (depth_in self.old) levels)) (fault_view f)) }
         ensures kept { IfErr result (λ f. refusal_in self.new ≡ Some (fault_view f)) }
         ensures before { OnOk result (refusal_in self.old ≡ None) }
         ensures after { OnOk result (refusal_in self.new ≡ None) }
@@ -84,20 +104,28 @@ impl<'d> TypeSpace<'d> {
     {
         self.begun = true;
         check(self.alloc, &mut self.refusal)?;
-        match add_targets(self.alloc, self.document, self.depth, texts, &mut self.held) {
+        match add_targets(
+            self.alloc,
+            self.document,
+            self.depth,
+            levels,
+            texts,
+            &mut self.held,
+        ) {
             Ok(_) => Ok(()),
             Err(fault) => Err(keep(self.alloc, &mut self.refusal, fault)),
         }
     }
 
     /// The id of the schema at a location. A definition, and the root where some `$ref` is `#`, has it already, and nothing is
-    /// converted. Elsewhere the schema is converted anew; where that gives a reference it has an entry of its own.
+    /// converted. Elsewhere the schema is converted anew; where that gives a reference it has an entry of its own. Where it lists values,
+    /// the items that references lead to are converted once more, to ask those. Refused is the first fault in that order.
     pub fn add_type<T: Texts>(&mut self, at: &Location, texts: &mut T) -> Result<TypeId, Fault>
         requires begun { is_begun self.old ≡ true }
         requires there { is_some (schema_at (document_in self.old) at.now) ≡ true }
-        ensures added { IfOk result (λ i. (h : History) → Holds self.old h → Adds self.new (id_view i) (added (T.relations texts.old) (document_in self.old) (depth_in self.old) at.now None h)) }
-        ensures fine { OnOk result (AreFine (T.relations texts.old) (document_in self.old) (depth_in self.old) (added_nodes (T.relations texts.old) (document_in self.old) (depth_in self.old) at.now None)) }
-        ensures refused { IfErr result (λ f. IsRefusal (refusal_in self.old) (Refuses (T.relations texts.old) (document_in self.old) (depth_in self.old) at.now (T.faults texts.old) (T.faults texts.new) (added_nodes (T.relations texts.old) (document_in self.old) (depth_in self.old) at.now None)) (fault_view f)) }
+        ensures added { IfOk result (λ i. (h : History) → Holds self.old h → Adds self.new (id_view i) (added (T.relations texts.old) (document_in self.old) (depth_in self.old) most_levels at.now None h)) }
+        ensures fine { OnOk result (AreFine (T.relations texts.old) (document_in self.old) (depth_in self.old) most_levels (added_nodes (T.relations texts.old) (document_in self.old) (depth_in self.old) most_levels at.now None)) }
+        ensures refused { IfErr result (λ f. IsRefusal (refusal_in self.old) (Refuses (T.relations texts.old) (document_in self.old) (depth_in self.old) most_levels (T.faults texts.old) (T.faults texts.new) (met_nodes (T.relations texts.old) (document_in self.old) (depth_in self.old) most_levels at.now None)) (fault_view f)) }
         ensures kept { IfErr result (λ f. refusal_in self.new ≡ Some (fault_view f)) }
         ensures before { OnOk result (refusal_in self.old ≡ None) }
         ensures after { OnOk result (refusal_in self.new ≡ None) }
@@ -119,9 +147,34 @@ impl<'d> TypeSpace<'d> {
     ) -> Result<TypeId, Fault>
         requires begun { is_begun self.old ≡ true }
         requires there { is_some (schema_at (document_in self.old) at.now) ≡ true }
-        ensures added { IfOk result (λ i. (h : History) → Holds self.old h → Adds self.new (id_view i) (added (T.relations texts.old) (document_in self.old) (depth_in self.old) at.now (option_map (λ n. n.now) name.entry) h)) }
-        ensures fine { OnOk result (AreFine (T.relations texts.old) (document_in self.old) (depth_in self.old) (added_nodes (T.relations texts.old) (document_in self.old) (depth_in self.old) at.now (option_map (λ n. n.now) name.entry))) }
-        ensures refused { IfErr result (λ f. IsRefusal (refusal_in self.old) (Refuses (T.relations texts.old) (document_in self.old) (depth_in self.old) at.now (T.faults texts.old) (T.faults texts.new) (added_nodes (T.relations texts.old) (document_in self.old) (depth_in self.old) at.now (option_map (λ n. n.now) name.entry))) (fault_view f)) }
+        ensures added { IfOk result (λ i. (h : History) → Holds self.old h → Adds self.new (id_view i) (added (T.relations texts.old) (document_in self.old) (depth_in self.old) most_levels at.now (option_map (λ n. n.now) name.entry) h)) }
+        ensures fine { OnOk result (AreFine (T.relations texts.old) (document_in self.old) (depth_in self.old) most_levels (added_nodes (T.relations texts.old) (document_in self.old) (depth_in self.old) most_levels at.now (option_map (λ n. n.now) name.entry))) }
+        ensures refused { IfErr result (λ f. IsRefusal (refusal_in self.old) (Refuses (T.relations texts.old) (document_in self.old) (depth_in self.old) most_levels (T.faults texts.old) (T.faults texts.new) (met_nodes (T.relations texts.old) (document_in self.old) (depth_in self.old) most_levels at.now (option_map (λ n. n.now) name.entry))) (fault_view f)) }
+        ensures kept { IfErr result (λ f. refusal_in self.new ≡ Some (fault_view f)) }
+        ensures before { OnOk result (refusal_in self.old ≡ None) }
+        ensures after { OnOk result (refusal_in self.new ≡ None) }
+        ensures begun { is_begun self.new ≡ true }
+        ensures same { IsOfSame self.old self.new }
+        ensures keeps { T.relations texts.new ≡ T.relations texts.old }
+        ensures counts { T.faults texts.old ≤ T.faults texts.new }
+    {
+        let most = levels();
+        self.type_within(at, name, most, texts)
+    }
+
+    // The same, where so many schemas may stand in one another.
+    fn type_within<T: Texts>(
+        &mut self,
+        at: &Location,
+        name: Option<&str>,
+        levels: u32,
+        texts: &mut T,
+    ) -> Result<TypeId, Fault>
+        requires begun { is_begun self.old ≡ true }
+        requires there { is_some (schema_at (document_in self.old) at.now) ≡ true }
+        ensures added { IfOk result (λ i. (h : History) → Holds self.old h → Adds self.new (id_view i) (added (T.relations texts.old) (document_in self.old) (depth_in self.old) levels at.now (option_map (λ n. n.now) name.entry) h)) }
+        ensures fine { OnOk result (AreFine (T.relations texts.old) (document_in self.old) (depth_in self.old) levels (added_nodes (T.relations texts.old) (document_in self.old) (depth_in self.old) levels at.now (option_map (λ n. n.now) name.entry))) }
+        ensures refused { IfErr result (λ f. IsRefusal (refusal_in self.old) (Refuses (T.relations texts.old) (document_in self.old) (depth_in self.old) levels (T.faults texts.old) (T.faults texts.new) (met_nodes (T.relations texts.old) (document_in self.old) (depth_in self.old) levels at.now (option_map (λ n. n.now) name.entry))) (fault_view f)) }
         ensures kept { IfErr result (λ f. refusal_in self.new ≡ Some (fault_view f)) }
         ensures before { OnOk result (refusal_in self.old ≡ None) }
         ensures after { OnOk result (refusal_in self.new ≡ None) }
@@ -135,6 +188,7 @@ impl<'d> TypeSpace<'d> {
             self.alloc,
             self.document,
             self.depth,
+            levels,
             texts,
             &mut self.held,
             at,

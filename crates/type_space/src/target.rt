@@ -6,7 +6,7 @@ ghost use Rattle.schema_tree.specs.Document.{view as document_seen};
 ghost use Rattle.schema_tree.specs.Fault.{fault_view, memory};
 ghost use Rattle.entry_defs.specs.Entry.{definition as definition_of};
 ghost use Rattle.entry_trees.specs.View.{target_view};
-ghost use Rattle.type_space.specs.Added.{definition_at, target_at};
+ghost use Rattle.history_laws.specs.Added.{definition_at, target_at};
 
 use entry_trees::Target;
 use root_references::refers_to_root;

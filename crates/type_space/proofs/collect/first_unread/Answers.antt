@@ -3,15 +3,9 @@ use Rattle.schema_tree.specs.Document.{view as document_seen}
 use Rattle.entry_trees.specs.View.{table_view}
 use Rattle.convert_trees.specs.Keeping.{unread_view}
 use Rattle.convert_trees.proofs.Roots.{none_listed}
-use Rattle.convert_trees.proofs.Ruled.{if_ok_mapped}
-use Rattle.type_space.specs.Added.{target_nodes}
+use Rattle.history_laws.specs.Added.{target_nodes}
 use Rattle.type_space.proofs.collect.first_unread.Goals as goal
 
-pub returns-in-Some-clause-unread : goal.returns-in-Some-clause-unread
-returns-in-Some-clause-unread g c = if_ok_mapped c.unread_by_items.result _ _ (λ o h l. h) c.unread_by_items.ensures.unread
-
 pub returns-in-None-clause-unread : goal.returns-in-None-clause-unread
-returns-in-None-clause-unread g c = λ l.
-    let r = g.T.Texts.relations c.args.texts.now in
-    let d = document_seen c.args.document.now in
-    none_listed r d (table_view c.args.table.now) (target_nodes r d c.args.depth) (sym (ap (option_map unread_view) c.in-None.is) ∙ l)
+returns-in-None-clause-unread g c =
+    none_listed (g.T.Texts.relations c.args.texts.now) (document_seen c.args.document.now) (table_view c.args.table.now) (target_nodes (g.T.Texts.relations c.args.texts.now) (document_seen c.args.document.now) c.args.depth c.args.levels) (sym (ap (option_map unread_view) c.in-None.is) ∙ c.requires.listed)

@@ -1,4 +1,4 @@
-use Rattle.std.proofs.Common.{option_map, refl}
+use Rattle.std.proofs.Common.{option_map}
 use Rattle.entry_trees.specs.View.{table_view}
 use Rattle.note_order.specs.Notes.{notes_view}
 use Rattle.convert_trees.specs.Keeping.{unread_view}
@@ -6,6 +6,6 @@ use Rattle.type_space.proofs.Holding.{targets_held}
 use Rattle.type_space.proofs.collect.place_targets.Goals as goal
 
 pub returns : goal.returns
-returns c r d depth h same found keeps =
-    targets_held r d depth c.args.held.now _ h (notes_view c.args.found.notes.items) (option_map unread_view c.args.found.unread) (table_view c.args.found.table) same found keeps c.in_ok-take_notes.ensures c.in_ok-take_unread.ensures refl
+returns c r d most n h same found keeps =
+    targets_held r d most n c.args.held.now _ h (notes_view c.args.found.notes.items) (option_map unread_view c.args.found.unread) (table_view c.args.found.table) same found keeps c.in_ok-take_notes.ensures c.in_ok-take_unread.ensures
     c.in_ok-plan.ensures

@@ -1,4 +1,4 @@
-use Rattle.std.proofs.Common.{option_map, refl}
+use Rattle.std.proofs.Common.{option_map}
 use Rattle.entry_types.specs.View.{id_view}
 use Rattle.entry_trees.specs.View.{tree_view}
 use Rattle.note_order.specs.Notes.{notes_view}
@@ -7,6 +7,6 @@ use Rattle.type_space.proofs.Holding.{tree_held}
 use Rattle.type_space.proofs.schema.place.Goals as goal
 
 pub returns : goal.returns
-returns c r d depth ts h found keeps =
-    tree_held r d depth c.args.held.now _ h (notes_view c.args.found.notes.items) (option_map unread_view c.args.found.unread) ts found keeps c.in_ok-take_notes.ensures c.in_ok-take_unread.ensures refl (tree_view c.args.found.tree)
+returns c r d most n ts h found keeps =
+    tree_held r d most n c.args.held.now _ h (notes_view c.args.found.notes.items) (option_map unread_view c.args.found.unread) ts found keeps c.in_ok-take_notes.ensures c.in_ok-take_unread.ensures (tree_view c.args.found.tree)
     (id_view c.in_ok-id.id) c.in_ok-id.ensures

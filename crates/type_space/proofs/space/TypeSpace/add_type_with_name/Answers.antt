@@ -1,21 +1,33 @@
-use Rattle.std.proofs.Common.{option_map}
-use Rattle.schema_tree.specs.Fault.{FaultD, fault_view}
-use Rattle.convert_trees.specs.Told.{Refuses}
-use Rattle.convert_trees.proofs.Here.{if_err}
-use Rattle.type_space.specs.Space.{document_in, depth_in}
-use Rattle.type_space.specs.Added.{added_nodes}
-use Rattle.type_space.proofs.Refusals.{told_again, kept_cause}
+use Rattle.std.proofs.Common.{ℕ, subst, option_map}
+use Rattle.std.specs.Prelude.{IfErr, IfOk, OnOk}
+use Rattle.schema_tree.specs.Fault.{fault_view}
+use Rattle.entry_types.specs.View.{id_view}
+use Rattle.convert_trees.specs.Told.{AreFine, Refuses}
+use Rattle.type_space.specs.Space.{History, Holds, document_in, depth_in, refusal_in}
+use Rattle.type_space.specs.Added.{Adds, added, added_nodes, met_nodes}
+use Rattle.type_space.specs.Refused.{IsRefusal}
 use Rattle.type_space.proofs.space.TypeSpace.add_type_with_name.Goals as goal
 
-pub returns-in_err-check-clause-refused : goal.returns-in_err-check-clause-refused
-returns-in_err-check-clause-refused g c =
-    if_err c.from_residual.result c.in_err-check.field-0.0 _ c.from_residual.ensures.1 (told_again _ _ _ c.in_err-check.ensures.told)
-
-pub returns-in-Err-clause-refused : goal.returns-in-Err-clause-refused
-returns-in-Err-clause-refused g c =
+pub returns-clause-added : goal.returns-clause-added
+returns-clause-added g c =
     let r = g.T.Texts.relations c.args.texts.now in
     let d = document_in c.args.self.now in
     let m = depth_in c.args.self.now in
-    let at = c.args.at.now in
-    kept_cause _ (λ (f : FaultD). Refuses r d m at (g.T.Texts.faults c.args.texts.now) (g.T.Texts.faults c.add_schema.new.texts) (added_nodes r d m at (option_map (λ n. n.now) c.args.name)) f) (fault_view c.in-Err.fault) _
-    c.in_ok-check.ensures.before c.in-Err.ensures.refused c.keep.ensures.told
+    subst (λ (n : ℕ). IfOk c.type_within.result (λ i. (h : History) → Holds c.args.self.now h → Adds c.type_within.new.self (id_view i) (added r d m n c.args.at.now (option_map (λ n. n.now) c.args.name) h))) c.levels-most.ensures
+    c.type_within.ensures.added
+
+pub returns-clause-fine : goal.returns-clause-fine
+returns-clause-fine g c =
+    let r = g.T.Texts.relations c.args.texts.now in
+    let d = document_in c.args.self.now in
+    let m = depth_in c.args.self.now in
+    subst (λ (n : ℕ). OnOk c.type_within.result (AreFine r d m n (added_nodes r d m n c.args.at.now (option_map (λ n. n.now) c.args.name)))) c.levels-most.ensures c.type_within.ensures.fine
+
+pub returns-clause-refused : goal.returns-clause-refused
+returns-clause-refused g c =
+    let r = g.T.Texts.relations c.args.texts.now in
+    let d = document_in c.args.self.now in
+    let m = depth_in c.args.self.now in
+    subst
+    (λ (n : ℕ). IfErr c.type_within.result (λ f. IsRefusal (refusal_in c.args.self.now) (Refuses r d m n (g.T.Texts.faults c.args.texts.now) (g.T.Texts.faults c.type_within.new.texts) (met_nodes r d m n c.args.at.now (option_map (λ n. n.now) c.args.name))) (fault_view f)))
+    c.levels-most.ensures c.type_within.ensures.refused

@@ -1,0 +1,12 @@
+pub mod Growing
+pub mod Fitting
+pub mod Standing
+pub mod Targeted
+pub mod Adding
+pub mod Located
+pub mod Coming
+pub mod LedTo
+pub mod Told
+pub mod Judged
+pub mod Agreed
+pub mod Composed
