@@ -1,5 +1,5 @@
 -- One level open.
-use Rattle.std.proofs.Common.{◌≡◌, ℕ, zero, suc, ◌-◌, ◌<◌, List, ap, refl, sym, ◌∙◌, arith}
+use Rattle.std.proofs.Common.{◌≡◌, ℕ, zero, suc, ◌-◌, ◌<◌, List, ap, refl, ◌∙◌, arith}
 use Rattle.token_trees.specs.declared.token.Span.{Span}
 use Rattle.token_trees.specs.Token.{Tok}
 use Rattle.syntax_trees.specs.declared.cursor.SyntaxKind.TheVariants.{UnexpectedToken}

@@ -1,5 +1,5 @@
 -- What an error says of the steps that led to it.
-use Rattle.std.proofs.Common.{◌≡◌, List, ap, refl, sym, ◌∙◌, subst}
+use Rattle.std.proofs.Common.{◌≡◌, List, ap, sym, ◌∙◌, subst}
 use Rattle.std.specs.Prelude.{Result, Ok, Err, IsErrAnd}
 use Rattle.syntax_trees.specs.declared.cursor.SyntaxError.{SyntaxError}
 use Rattle.syntax_parsers.specs.declared.fault.ParseFault.{ParseFault}

@@ -1,5 +1,5 @@
 -- What an opened token weighs.
-use Rattle.std.proofs.Common.{◌≡◌, ℕ, suc, ◌+◌, List, Option, Some, None, refl, ap, sym, ◌∙◌}
+use Rattle.std.proofs.Common.{◌≡◌, ◌+◌, List, Some, None, refl, ap, sym, ◌∙◌}
 use Rattle.token_trees.specs.declared.token.Span.{Span}
 use Rattle.token_trees.specs.declared.token.Delimiter.{Delimiter}
 use Rattle.token_trees.specs.Token.{Tok, word, mark, fixed, group, Toks, no_toks, tok, list_of}

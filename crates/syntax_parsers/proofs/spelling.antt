@@ -1,6 +1,7 @@
 pub mod Stands
 pub mod Read
 pub mod Halts
+pub mod Placed
 pub mod Begins
 pub mod Room
 pub mod Reach

@@ -4,7 +4,7 @@ use Rattle.std.specs.Prelude.{List, [], ◌∷◌, ◌++◌, Bool, true, false, 
 use Rattle.token_trees.specs.declared.token.Span.{Span}
 use Rattle.token_trees.specs.Token.{Tok, fixed}
 use Rattle.syntax_trees.specs.Metas.{place, sign_next}
-use Rattle.syntax_trees.specs.Syntax.{LifetimeD, TyD, ty_array, ty_fn, ty_impl, ty_infer, ty_macro, ty_never, ty_paren, ty_path, ty_pointer, ty_reference, ty_slice, ty_object, ty_tuple, PathD, path, SegmentD, segment, ArgumentsD, no_arguments, angle, parens, GenericD, arg_lifetime, arg_ty, arg_const, arg_assoc_ty, arg_assoc_const, arg_constraint, qself, ExprD, ex_fixed, ex_path, ex_verbatim, ExprPathD, expr_path, BoundD, bound_trait, bound_lifetime, MaybeTy, no_ty, some_ty, no_qself, some_qself, Segments, end_segments, more_segments, tys_of, bounds_of, segments_of, generics_of}
+use Rattle.syntax_trees.specs.Syntax.{LifetimeD, TyD, ty_array, ty_fn, ty_group, ty_impl, ty_infer, ty_macro, ty_never, ty_paren, ty_path, ty_pointer, ty_reference, ty_slice, ty_object, ty_tuple, ty_verbatim, PathD, path, SegmentD, segment, ArgumentsD, no_arguments, angle, parens, GenericD, arg_lifetime, arg_ty, arg_const, arg_assoc_ty, arg_assoc_const, arg_constraint, qself, ExprD, ex_fixed, ex_path, ex_verbatim, ExprPathD, expr_path, BoundD, bound_trait, bound_lifetime, MaybeTy, no_ty, some_ty, no_qself, some_qself, Bounds, end_bounds, more_bounds, Segments, end_segments, more_segments, tys_of, bounds_of, segments_of, generics_of}
 use Rattle.syntax_trees.specs.declared.cursor.SyntaxKind.{SyntaxKind}
 use Rattle.syntax_trees.specs.declared.cursor.SyntaxKind.TheVariants.{ExpectedPath, ExpectedComma, ExpectedParen, ExpectedValue, ExpectedIdent, ExpectedType, ExpectedGt, ExpectedBound, UnexpectedToken}
 use Rattle.syntax_trees.specs.declared.cursor.SyntaxError.{SyntaxError}
@@ -140,20 +140,63 @@ function_body r at ts =
 unfoldable pub some_bounds : Readers → Reader (List BoundD)
 some_bounds r at ts = cond (bound_next ts) (r.bounds at ts) (missing ExpectedBound at ts)
 
--- Whether it ends in `-> T`. What stands behind it then belongs to that type: no `::` of this path, and no `!` of a macro. Of
--- segments, `was` says it of the one before.
+-- Whether what stands behind a tree belongs to a type at its end: a `::` with more of a path, or where `bang` says so the `!` of a
+-- macro. A path as a type takes both, that of a bound or behind `<T>` the `::` alone, and one that ends in `-> T` all that T takes.
+-- What ends in brackets, a lifetime, `_` or `!` takes neither. Of a list, `was` says it of the element before.
+abbrev mutual
+  pub takes_ty : Bool → TyD → Bool
+  takes_ty bang (ty_array t e) = false
+  takes_ty bang (ty_fn is o) = takes_output bang o
+  takes_ty bang (ty_group t) = false
+  takes_ty bang (ty_impl bs) = takes_bounds bang false bs
+  takes_ty bang (ty_infer s) = false
+  takes_ty bang (ty_macro p m) = false
+  takes_ty bang (ty_never s) = false
+  takes_ty bang (ty_paren t) = false
+  takes_ty bang (ty_path no_qself p) = true
+  takes_ty bang (ty_path (some_qself q) p) = cond bang (gives_path p) true
+  takes_ty bang (ty_pointer m t) = takes_ty bang t
+  takes_ty bang (ty_reference l m t) = takes_ty bang t
+  takes_ty bang (ty_slice t) = false
+  takes_ty bang (ty_object bs) = takes_bounds bang false bs
+  takes_ty bang (ty_tuple is) = false
+  takes_ty bang (ty_verbatim m) = false
+
+  pub takes_output : Bool → MaybeTy → Bool
+  takes_output bang no_ty = false
+  takes_output bang (some_ty t) = takes_ty bang t
+
+  pub takes_bounds : Bool → Bool → Bounds → Bool
+  takes_bounds bang was end_bounds = was
+  takes_bounds bang was (more_bounds b bs) = takes_bounds bang (takes_bound bang b) bs
+
+  pub takes_bound : Bool → BoundD → Bool
+  takes_bound bang (bound_trait p) = cond bang (gives_path p) true
+  takes_bound bang (bound_lifetime l) = false
+
+  -- whether the `!` of a macro with this path would belong to the path's end
+  pub gives_path : PathD → Bool
+  gives_path (path l ss) = gives_last false ss
+
+  pub gives_last : Bool → Segments → Bool
+  gives_last was end_segments = was
+  gives_last was (more_segments s ss) = gives_last (takes_segment true s) ss
+
+  pub takes_segment : Bool → SegmentD → Bool
+  takes_segment bang (segment x a) = takes_arguments bang a
+
+  pub takes_arguments : Bool → ArgumentsD → Bool
+  takes_arguments bang no_arguments = false
+  takes_arguments bang (angle t gs) = false
+  takes_arguments bang (parens is o) = takes_output bang o
+
+-- the same of a path that is a bound, or stands behind `<T>`
+abbrev pub takes_path : Bool → PathD → Bool
+takes_path bang p = cond bang (gives_path p) true
+
+-- whether a `::` behind a segment belongs to the segment's end
 abbrev pub gives_segment : SegmentD → Bool
-gives_segment (segment x no_arguments) = false
-gives_segment (segment x (angle t gs)) = false
-gives_segment (segment x (parens is no_ty)) = false
-gives_segment (segment x (parens is (some_ty t))) = true
-
-abbrev pub gives_last : Bool → Segments → Bool
-gives_last was end_segments = was
-gives_last was (more_segments s ss) = gives_last (gives_segment s) ss
-
-abbrev pub gives_path : PathD → Bool
-gives_path (path l ss) = gives_last false ss
+gives_segment s = takes_segment false s
 
 -- a path, or with a `!` and a group behind it a macro
 unfoldable pub path_ty : Readers → Reader TyD

@@ -1,9 +1,9 @@
 -- Parts of the grammar that have readers of their own. Each is the grammar's, cut into smaller pieces.
-use Rattle.std.specs.Prelude.{List, [], ◌∷◌, ◌++◌, Bool, true, false, Option, Some, None, Result, Ok, Err, cond, codes, length}
+use Rattle.std.specs.Prelude.{List, [], ◌∷◌, ◌++◌, Bool, true, false, Option, Some, None, Result, Ok, cond, codes, length}
 use Rattle.token_trees.specs.declared.token.Span.{Span}
 use Rattle.token_trees.specs.Token.{Tok, Name, Fixed}
 use Rattle.syntax_trees.specs.Metas.{place}
-use Rattle.syntax_trees.specs.Syntax.{TyD, ty_array, ty_impl, ty_infer, ty_never, ty_slice, ty_object, PathD, path, SegmentD, GenericD, arg_lifetime, arg_ty, arg_const, arg_assoc_ty, arg_assoc_const, arg_constraint, qself, ExprD, ex_fixed, ExprPathD, expr_path, some_qself, bounds_of, segments_of}
+use Rattle.syntax_trees.specs.Syntax.{TyD, ty_array, ty_impl, ty_infer, ty_never, ty_slice, ty_object, path, GenericD, arg_lifetime, arg_ty, arg_const, arg_assoc_ty, arg_assoc_const, arg_constraint, qself, ExprD, ex_fixed, ExprPathD, expr_path, some_qself, bounds_of, segments_of}
 use Rattle.syntax_trees.specs.declared.cursor.SyntaxKind.TheVariants.{ExpectedType}
 use Rattle.syntax_trees.specs.declared.cursor.SyntaxError.{SyntaxError}
 use Rattle.syntax_parsers.specs.Answer.{◌>>=◌}

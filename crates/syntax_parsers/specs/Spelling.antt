@@ -2,7 +2,7 @@
 -- it. A name, a lifetime and a literal of the tree have the places of their tokens; of the characters, words and groups that the
 -- tree itself prints, the place says nothing, and the spacing of a character only where it is the first of `::` or `->` or the
 -- quote of a lifetime. A separated list of one or more elements may end in one more separator, but the `+` behind a trait object
--- or an `impl` belongs to that one.
+-- or an `impl` belongs to that one, and what can be a bound behind a `+` is the next.
 use Rattle.std.specs.Prelude.{◌≡◌, ◌⊎◌, ℕ, ◌-◌, List, [], ◌∷◌, ◌++◌, Bool, true, false, Option, Some, None, cond, codes, nat_eq}
 use Rattle.token_trees.specs.declared.token.Span.{Span}
 use Rattle.token_trees.specs.declared.token.Spacing.{Spacing}
@@ -12,6 +12,7 @@ use Rattle.token_trees.specs.declared.token.Delimiter.TheVariants.{Parenthesis, 
 use Rattle.token_trees.specs.Token.{Tok, word, mark, fixed, group, Toks, list_of, Name}
 use Rattle.syntax_printing.specs.Print.{position}
 use Rattle.syntax_trees.specs.Syntax.{LifetimeD, TyD, ty_array, ty_fn, ty_group, ty_impl, ty_infer, ty_macro, ty_never, ty_paren, ty_path, ty_pointer, ty_reference, ty_slice, ty_object, ty_tuple, ty_verbatim, PathD, path, SegmentD, segment, ArgumentsD, no_arguments, angle, parens, GenericD, arg_lifetime, arg_ty, arg_const, arg_assoc_ty, arg_assoc_const, arg_constraint, QSelfD, qself, ExprD, ex_binary, ex_call, ex_cast, ex_field, ex_index, ex_fixed, ex_paren, ex_path, ex_unary, ex_verbatim, ExprPathD, expr_path, BoundD, bound_trait, bound_lifetime, MaybeTy, no_ty, some_ty, MaybeQSelf, no_qself, some_qself, Tys, end_tys, more_tys, Bounds, end_bounds, more_bounds, Segments, end_segments, more_segments, Generics, end_generics, more_generics}
+use Rattle.syntax_parsers.specs.Fronts.{bound_next}
 
 abbrev pub SignThen : ℕ → List Tok → List Tok → Type 0
 SignThen c ts rest = (j : Spacing) × (s : Span) × (ts ≡ mark c j s ∷ rest)
@@ -145,7 +146,7 @@ abbrev mutual
 
   -- behind a bound of which `open` says whether it ends in a trait object or an `impl`
   pub BoundsBehind : Bool → Bounds → List Tok → List Tok → Type 0
-  BoundsBehind «open» end_bounds ts rest = (ts ≡ rest) ⊎ SignThen 43 ts rest × («open» ≡ false)
+  BoundsBehind «open» end_bounds ts rest = (ts ≡ rest) ⊎ SignThen 43 ts rest × («open» ≡ false) × (bound_next rest ≡ false)
   BoundsBehind «open» (more_bounds b bs) ts rest = (a c : List Tok) × SignThen 43 ts a × BoundThen b a c × BoundsBehind (ends_bound b) bs c rest
 
   -- `<T as`, or `<T>` where no segment lies before the `>`

@@ -35,6 +35,17 @@ b = codes "B"
 abbrev pub t : List ℕ
 t = codes "T"
 
+-- `::B`
+abbrev pub on_to_b : List Tok
+on_to_b = joint 58 ∷ sign 58 ∷ name b ∷ []
+
+-- `A() -> T::B` with the `::` outside T, and `A() -> T!()` with the `!` outside T
+abbrev pub behind_b : TyD → TyD
+behind_b u = ty_path no_qself (path false (segments_of (giving a (some_ty u) ∷ plain b ∷ [])))
+
+abbrev pub macro_behind : TyD → TyD
+macro_behind u = ty_macro (path_of_one (giving a (some_ty u))) (within [] ∷ [])
+
 abbrev pub spelled : List (List Tok × TyD)
 spelled =
     -- `Vec<A>`, `Vec<A,>`, `Vec<>`, `Vec::<A>`
@@ -79,6 +90,23 @@ spelled =
     -- `A() -> B::T`, `A() -> B!()`: what stands behind a return type belongs to it
     ∷ (call a (name b ∷ joint 58 ∷ sign 58 ∷ name t ∷ []), ty_path no_qself (path_of_one (giving a (some_ty (ty_path no_qself (path false (segments_of (plain b ∷ plain t ∷ []))))))))
     ∷ (call a (name b ∷ sign 33 ∷ within [] ∷ []), ty_path no_qself (path_of_one (giving a (some_ty (ty_macro (path_of_one (plain b)) (within [] ∷ []))))))
+    -- `A() -> _::B`, `A() -> ()::B`, `A() -> [T]::B`, `A() -> !::B`, `A() -> T!()::B`, `A() -> &_::B`, `A() -> fn()::B`: what takes no `::`
+    ∷ (call a (name (codes "_") ∷ on_to_b), behind_b (ty_infer site))
+    ∷ (call a (within [] ∷ on_to_b), behind_b (ty_tuple (tys_of [])))
+    ∷ (call a (bracketed (name t ∷ []) ∷ on_to_b), behind_b (ty_slice (named t)))
+    ∷ (call a (sign 33 ∷ on_to_b), behind_b (ty_never site))
+    ∷ (call a (name t ∷ sign 33 ∷ within [] ∷ on_to_b), behind_b (ty_macro (path_of_one (plain t)) (within [] ∷ [])))
+    ∷ (call a (sign 38 ∷ name (codes "_") ∷ on_to_b), behind_b (ty_reference None false (ty_infer site)))
+    ∷ (call a (name (codes "fn") ∷ within [] ∷ on_to_b), behind_b (ty_fn (tys_of []) no_ty))
+    -- `A() -> dyn 'a::B`, and `A() -> dyn 'a + ::B`, whose `::B` is a bound
+    ∷ (call a (name (codes "dyn") ∷ joint 39 ∷ name (codes "a") ∷ on_to_b), behind_b (ty_object (bounds_of (bound_lifetime (life (codes "a")) ∷ []))))
+    ∷ (call a (name (codes "dyn") ∷ joint 39 ∷ name (codes "a") ∷ sign 43 ∷ on_to_b), ty_path no_qself (path_of_one (giving a (some_ty (ty_object (bounds_of (bound_lifetime (life (codes "a")) ∷ bound_trait (path true (segments_of (plain b ∷ []))) ∷ [])))))))
+    -- `A() -> _!()`, `A() -> dyn B!()`, `A() -> <T>::B!()`: what takes no `!`
+    ∷ (call a (name (codes "_") ∷ sign 33 ∷ within [] ∷ []), macro_behind (ty_infer site))
+    ∷ (call a (name (codes "dyn") ∷ name b ∷ sign 33 ∷ within [] ∷ []), macro_behind (ty_object (bounds_of (bound b ∷ []))))
+    ∷ (call a (sign 60 ∷ name t ∷ joint 62 ∷ joint 58 ∷ sign 58 ∷ name b ∷ sign 33 ∷ within [] ∷ []), macro_behind (ty_path (some_qself (qself (named t) 0)) (path true (segments_of (plain b ∷ [])))))
+    -- `[T; A() -> (T)::B]`: a length that is such a path
+    ∷ (bracketed (name t ∷ sign 59 ∷ call a (within (name t ∷ []) ∷ on_to_b)) ∷ [], ty_array (named t) (ex_path (expr_path no_qself (path false (segments_of (giving a (some_ty (ty_paren (named t))) ∷ plain b ∷ []))))))
     -- `&T`, `&'a mut T`, `*const T`, `*mut T`, `!`, `_`
     ∷ (sign 38 ∷ name t ∷ [], ty_reference None false (named t))
     ∷ (sign 38 ∷ joint 39 ∷ name (codes "a") ∷ name (codes "mut") ∷ name t ∷ [], ty_reference (Some (life (codes "a"))) true (named t))
@@ -115,7 +143,12 @@ unspelled =
     ∷ (name (codes "dyn") ∷ call a (name (codes "dyn") ∷ name b ∷ sign 43 ∷ sign 43 ∷ []), ty_object (bounds_of (bound_trait (path_of_one (giving a (some_ty (ty_object (bounds_of (bound b ∷ [])))))) ∷ [])))
     -- `A() -> B::T` and `A() -> B!()`, with the `::` or the `!` outside the return type
     ∷ (call a (name b ∷ joint 58 ∷ sign 58 ∷ name t ∷ []), ty_path no_qself (path false (segments_of (giving a (some_ty (named b)) ∷ plain t ∷ []))))
-    ∷ (call a (name b ∷ sign 33 ∷ within [] ∷ []), ty_macro (path_of_one (giving a (some_ty (named b)))) (within [] ∷ []))
+    ∷ (call a (name b ∷ sign 33 ∷ within [] ∷ []), macro_behind (named b))
+    -- the same at the end of what stands behind `->`: `A() -> &T::B`, `A() -> dyn T::B`, `A() -> fn() -> T!()`, `A() -> dyn 'a + ::B`
+    ∷ (call a (sign 38 ∷ name t ∷ on_to_b), behind_b (ty_reference None false (named t)))
+    ∷ (call a (name (codes "dyn") ∷ name t ∷ on_to_b), behind_b (ty_object (bounds_of (bound t ∷ []))))
+    ∷ (call a (name (codes "fn") ∷ within [] ∷ joint 45 ∷ sign 62 ∷ name t ∷ sign 33 ∷ within [] ∷ []), macro_behind (ty_fn (tys_of []) (some_ty (named t))))
+    ∷ (call a (name (codes "dyn") ∷ joint 39 ∷ name (codes "a") ∷ sign 43 ∷ on_to_b), behind_b (ty_object (bounds_of (bound_lifetime (life (codes "a")) ∷ []))))
     ∷ []
 
 abbrev pub AllSpelled : List (List Tok × TyD) → Type 0

@@ -92,7 +92,7 @@ abbrev mutual
   pub BehindForm : ℕ → PathD → Type 0
   BehindForm n (path l ss) = (0 < segments_count ss) × SegmentsForm n ss
 
-  -- a segment that ends in `-> T` is the last, or the last before the `>`
+  -- a segment whose end takes a `::` is the last, or the last before the `>`
   pub SegmentsForm : ℕ → Segments → Type 0
   SegmentsForm n end_segments = Unit {0}
   SegmentsForm n (more_segments s ss) = SegmentForm s × (gives_segment s ≡ true → is_last n ss ≡ true) × SegmentsForm (n - 1) ss

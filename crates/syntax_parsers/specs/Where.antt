@@ -1,16 +1,14 @@
 -- How the predicates of a `where` clause are read.
-use Rattle.std.specs.Prelude.{ℕ, zero, suc, ◌&&◌, List, [], ◌∷◌, Result, Ok, Err, cond}
+use Rattle.std.specs.Prelude.{ℕ, zero, suc, List, [], ◌∷◌, Result, Ok}
 use Rattle.token_trees.specs.declared.token.Span.{Span}
-use Rattle.token_trees.specs.Token.{Tok, span_of}
-use Rattle.syntax_trees.specs.Metas.{is_sign, is_joint_sign, is_word}
+use Rattle.token_trees.specs.Token.{Tok}
 use Rattle.syntax_trees.specs.Syntax.{LifetimeD}
 use Rattle.syntax_trees.specs.Item.{PredicateD, predicate_ty, predicate_lifetime}
 use Rattle.syntax_trees.specs.declared.cursor.SyntaxKind.TheVariants.{ExpectedComma, UnexpectedToken}
 use Rattle.syntax_trees.specs.declared.cursor.SyntaxError.{SyntaxError}
 use Rattle.syntax_parsers.specs.Answer.{◌>>=◌, with_front}
 use Rattle.syntax_parsers.specs.Fronts.{sign_front, lifetime_front, colon_front}
-use Rattle.syntax_parsers.specs.Lifetimes.{name_of}
-use Rattle.syntax_parsers.specs.Grammar.{Readers, Read, Reader, choose, missing, required}
+use Rattle.syntax_parsers.specs.Grammar.{Readers, Reader, choose, missing, required}
 
 -- lifetimes with a `+` between any two, and one more behind the last where you like
 unfoldable pub lifetimes_body : (List Tok → List LifetimeD × List Tok) → List Tok → List LifetimeD × List Tok

@@ -46,6 +46,10 @@ type_of ts = whole around ((levels 40).ty around ts)
 abbrev pub within : List Tok → Tok
 within ts = group Parenthesis (toks_of ts) site
 
+-- `A() -> [B]`, as a segment
+abbrev pub gives_slice : SegmentD
+gives_slice = segment (record { text = codes "A"; span = site }) (parens (tys_of []) (some_ty (ty_slice (named (codes "B")))))
+
 abbrev pub WorkedTypes : Type 0
 WorkedTypes =
     -- `Vec<u8>`
@@ -82,9 +86,9 @@ WorkedTypes =
     × (type_of (name (codes "a") ∷ joint 58 ∷ sign 58 ∷ []) ≡ Err (error ExpectedIdent around))
     -- `Fn(A) -> B`
     × (type_of (name (codes "Fn") ∷ within (name (codes "A") ∷ []) ∷ joint 45 ∷ sign 62 ∷ name (codes "B") ∷ []) ≡ Ok (ty_path no_qself (path_of_one (segment (record { text = codes "Fn"; span = site }) (parens (tys_of (named (codes "A") ∷ [])) (some_ty (named (codes "B"))))))))
-    -- `A() -> [B]::C` and `A() -> [B]!()`: what stands behind `-> T` belongs to T, which takes neither
-    × (type_of (name (codes "A") ∷ within [] ∷ joint 45 ∷ sign 62 ∷ group Bracket (toks_of (name (codes "B") ∷ [])) site ∷ joint 58 ∷ sign 58 ∷ name (codes "C") ∷ []) ≡ Err (error UnexpectedToken site))
-    × (type_of (name (codes "A") ∷ within [] ∷ joint 45 ∷ sign 62 ∷ group Bracket (toks_of (name (codes "B") ∷ [])) site ∷ sign 33 ∷ within [] ∷ []) ≡ Err (error UnexpectedToken site))
+    -- `A() -> [B]::C` and `A() -> [B]!()`: the path goes on, as `[B]` takes neither
+    × (type_of (name (codes "A") ∷ within [] ∷ joint 45 ∷ sign 62 ∷ group Bracket (toks_of (name (codes "B") ∷ [])) site ∷ joint 58 ∷ sign 58 ∷ name (codes "C") ∷ []) ≡ Ok (ty_path no_qself (path false (segments_of (gives_slice ∷ plain (codes "C") ∷ [])))))
+    × (type_of (name (codes "A") ∷ within [] ∷ joint 45 ∷ sign 62 ∷ group Bracket (toks_of (name (codes "B") ∷ [])) site ∷ sign 33 ∷ within [] ∷ []) ≡ Ok (ty_macro (path_of_one gives_slice) (within [] ∷ [])))
     -- `m!(x)`
     × (type_of (name (codes "m") ∷ sign 33 ∷ within (name (codes "x") ∷ []) ∷ []) ≡ Ok (ty_macro (path_of_one (plain (codes "m"))) (within (name (codes "x") ∷ []) ∷ [])))
     -- `I<Item = T>`, `I<'a, Item: A>`

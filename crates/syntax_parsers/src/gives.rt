@@ -1,30 +1,97 @@
-//! Paths that end in `-> T`: what stands behind belongs to that type.
-ghost use Rattle.std.specs.Prelude.{◌≡◌, None, cond, option_map};
+//! Whether what stands behind a tree belongs to a type at its end: a `::` with more of a path, or where `bang` says so the `!`
+//! of a macro.
+ghost use Rattle.std.specs.Prelude.{◌≡◌, None, cond, option_map, map, false, true};
 ghost use Rattle.token_trees.specs.View.{trees, tree as tree_view};
-ghost use Rattle.syntax_trees.specs.View.{path_view, segment_view};
+ghost use Rattle.syntax_trees.specs.Syntax.{bounds_of};
+ghost use Rattle.syntax_trees.specs.View.{ty as ty_view, path_view, segment_view, arguments_view, bound_view, maybe_ty_view};
 ghost use Rattle.syntax_parsers.specs.Fronts.{sign_front, tree_front, further_front};
-ghost use Rattle.syntax_parsers.specs.Grammar.{choose, gives_segment as segment_gives, gives_path as path_gives};
+ghost use Rattle.syntax_parsers.specs.Grammar.{choose, gives_segment as segment_gives, gives_path as path_gives, takes_ty as ty_takes, takes_output as output_takes, takes_bounds as bounds_take, takes_bound as bound_takes, takes_path as path_takes, takes_segment as segment_takes, takes_arguments as arguments_take};
 
 use crate::front::{after_sign, after_tree, further};
-use syntax_trees::{Path, PathArguments, PathSegment};
+use syntax_trees::{Bound, Path, PathArguments, PathSegment, Ty};
 use token_trees::TokenTree;
 
-fn gives_segment(segment: &PathSegment) -> bool
-    ensures { result ≡ segment_gives (segment_view segment.now) }
+#[cycle(takes)]
+fn takes_ty(bang: bool, from: &Ty) -> bool
+    ensures { result ≡ ty_takes bang (ty_view from.now) }
 {
-    match &segment.arguments {
-        PathArguments::Paren { output, .. } => output.is_some(),
+    match from {
+        Ty::FnPtr { output, .. } => takes_output(bang, output),
+        Ty::ImplTrait(bounds) => takes_bounds(bang, bounds),
+        Ty::TraitObject(bounds) => takes_bounds(bang, bounds),
+        Ty::Path { qself, path } => match qself {
+            None => true,
+            Some(_) => takes_path(bang, path),
+        },
+        Ty::Ptr { elem, .. } => takes_ty(bang, elem),
+        Ty::Reference { elem, .. } => takes_ty(bang, elem),
         _ => false,
     }
 }
 
-#[tactic(auto, using(crate::proofs::Ends::path_ends, crate::proofs::Ends::path_ends_nowhere))]
-fn gives_path(path: &Path) -> bool
-    ensures { result ≡ path_gives (path_view path.now) }
+#[cycle(takes)]
+fn takes_output(bang: bool, from: &Option<Box<Ty>>) -> bool
+    ensures { result ≡ output_takes bang (maybe_ty_view from.now) }
 {
-    match path.segments.last() {
-        Some(last) => gives_segment(last),
+    match from {
         None => false,
+        Some(inner) => takes_ty(bang, inner),
+    }
+}
+
+#[cycle(takes)]
+#[tactic(auto, using(crate::proofs::Ends::bounds_end, crate::proofs::Ends::bounds_end_nowhere))]
+fn takes_bounds(bang: bool, from: &Vec<Bound>) -> bool
+    ensures { result ≡ bounds_take bang false (bounds_of (map bound_view from.now.items)) }
+{
+    match from.last() {
+        Some(last) => takes_bound(bang, last),
+        None => false,
+    }
+}
+
+#[cycle(takes)]
+fn takes_bound(bang: bool, from: &Bound) -> bool
+    ensures { result ≡ bound_takes bang (bound_view from.now) }
+{
+    match from {
+        Bound::Trait(path) => takes_path(bang, path),
+        Bound::Lifetime(_) => false,
+    }
+}
+
+#[cycle(takes)]
+fn takes_path(bang: bool, from: &Path) -> bool
+    ensures { result ≡ path_takes bang (path_view from.now) }
+{
+    if bang { gives_path(from) } else { true }
+}
+
+#[cycle(takes)]
+#[tactic(auto, using(crate::proofs::Ends::path_ends, crate::proofs::Ends::path_ends_nowhere))]
+fn gives_path(from: &Path) -> bool
+    ensures { result ≡ path_gives (path_view from.now) }
+{
+    match from.segments.last() {
+        Some(last) => takes_segment(true, last),
+        None => false,
+    }
+}
+
+#[cycle(takes)]
+fn takes_segment(bang: bool, from: &PathSegment) -> bool
+    ensures { result ≡ segment_takes bang (segment_view from.now) }
+{
+    takes_arguments(bang, &from.arguments)
+}
+
+#[cycle(takes)]
+fn takes_arguments(bang: bool, from: &PathArguments) -> bool
+    ensures { result ≡ arguments_take bang (arguments_view from.now) }
+{
+    match from {
+        PathArguments::Paren { output, .. } => takes_output(bang, output),
+        _ => false,
     }
 }
 
@@ -35,7 +102,7 @@ pub(crate) fn after_segment<'a>(
 ) -> Option<&'a [TokenTree]>
     ensures { option_map (λ x. trees x.now) result ≡ cond (segment_gives (segment_view segment.now)) None (further_front (trees rest.now)) }
 {
-    if gives_segment(segment) {
+    if takes_segment(false, segment) {
         return None;
     }
     further(rest)

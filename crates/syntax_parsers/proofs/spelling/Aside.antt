@@ -10,11 +10,11 @@ use Rattle.token_trees.specs.declared.token.Delimiter.TheVariants.{Parenthesis, 
 use Rattle.token_trees.specs.Token.{Tok, word, mark, fixed, group, Toks, no_toks, tok, list_of, Fixed, Name, placed, all_placed, site}
 use Rattle.syntax_trees.specs.Syntax.{LifetimeD, TyD, ty_array, ty_fn, ty_group, ty_impl, ty_infer, ty_macro, ty_never, ty_paren, ty_path, ty_pointer, ty_reference, ty_slice, ty_object, ty_tuple, ty_verbatim, PathD, path, SegmentD, segment, ArgumentsD, no_arguments, angle, parens, GenericD, arg_lifetime, arg_ty, arg_const, arg_assoc_ty, arg_assoc_const, arg_constraint, qself, ExprD, ex_binary, ex_call, ex_cast, ex_field, ex_index, ex_fixed, ex_paren, ex_path, ex_unary, ex_verbatim, ExprPathD, expr_path, BoundD, bound_trait, bound_lifetime, MaybeTy, no_ty, some_ty, no_qself, some_qself, Tys, end_tys, more_tys, Bounds, end_bounds, more_bounds, Segments, end_segments, more_segments, Generics, end_generics, more_generics}
 use Rattle.syntax_parsers.specs.Fronts.{is_reserved}
-use Rattle.syntax_parsers.specs.Grammar.{gives_segment, gives_last, gives_path}
 use Rattle.syntax_parsers.specs.Spelling.{is_one, SignThen, PairThen, WordThen, NameThen, LifetimeThen, GroupThen, MaybeLifetimeThen, MutThen, ColonsThen, CloseThen, LastComma, ends_ty, ends_output, ends_path, ends_segments, ends_segment, ends_arguments, ends_bound, TyThen, OutputThen, TysThen, TysBehind, BoundThen, BoundsThen, BoundsBehind, PathThen, SegmentsThen, SegmentThen, ArgumentsThen, GenericsThen, GenericsBehind, GenericThen, ExprThen, ExprPathThen}
 use Rattle.syntax_parsers.specs.SpellingForm.{has_bounds, segments_count, is_last, IsGroup, IsConstant, TyForm, OutputForm, TysForm, BoundForm, BoundsForm, PathForm, SegmentsForm, SegmentForm, ArgumentsForm, GenericsForm, GenericForm, LengthForm, ExprPathForm, IsNoLiteral, IsNoPath, TyLengths, OutputLengths, TysLengths, BoundLengths, BoundsLengths, PathLengths, SegmentsLengths, SegmentLengths, ArgumentsLengths, GenericsLengths, GenericLengths, LengthHeld, ExprPathLengths, IsParsedTy, IsParsedBounds, SpellsTy, SpellsPath, SpellsExprPath, SpellsBounds}
 use Rattle.syntax_parsers.specs.SpellingAside.{name_at, lifetime_at, maybe_lifetime_at, output_at, tys_at, bound_at, bounds_at, path_at, segments_at, segment_at, arguments_at, generics_at, generic_at, expr_at, expr_path_at, SameToks, SameTy, SamePath, SameExprPath, SameBounds}
 use Rattle.syntax_parsers.proofs.spelling.Reach.{tys_count}
+use Rattle.syntax_parsers.proofs.spelling.Placed.{path_gives, segment_gives, bound_next_same}
 
 abbrev bare : List Tok → List Tok
 bare ts = map (placed site) ts
@@ -156,7 +156,7 @@ abbrev TyMoved : TyD → List Tok → List Tok → Type 0
 TyMoved t us rest = (u : TyD) × (vs : List Tok) × SameToks rest vs × TyForm u × TyThen u us vs × SameTy t u × (ends_ty u ≡ ends_ty t) × (Kept → TyLengths t → TyLengths u)
 
 abbrev OutputMoved : MaybeTy → List Tok → List Tok → Type 0
-OutputMoved o us rest = (u : MaybeTy) × (vs : List Tok) × SameToks rest vs × OutputForm u × OutputThen u us vs × (output_at site o ≡ output_at site u) × (ends_output u ≡ ends_output o) × (Kept → OutputLengths o → OutputLengths u) × ((x y : Name) (is js : Tys) → gives_segment (segment y (parens js u)) ≡ gives_segment (segment x (parens is o)))
+OutputMoved o us rest = (u : MaybeTy) × (vs : List Tok) × SameToks rest vs × OutputForm u × OutputThen u us vs × (output_at site o ≡ output_at site u) × (ends_output u ≡ ends_output o) × (Kept → OutputLengths o → OutputLengths u)
 
 abbrev TysMoved : (Tys → List Tok → Type 0) → Tys → List Tok → Type 0
 TysMoved P is us = (js : Tys) × TysForm js × P js us × (tys_at site is ≡ tys_at site js) × (tys_count js ≡ tys_count is) × (Kept → TysLengths is → TysLengths js)
@@ -168,16 +168,16 @@ abbrev BoundsMoved : (Bounds → List Tok → List Tok → Type 0) → Bounds �
 BoundsMoved P bs us rest = (cs : Bounds) × (vs : List Tok) × SameToks rest vs × BoundsForm cs × P cs us vs × (bounds_at site bs ≡ bounds_at site cs) × (has_bounds cs ≡ has_bounds bs) × (Kept → BoundsLengths bs → BoundsLengths cs)
 
 abbrev SegmentsMoved : ℕ → Bool → Segments → List Tok → List Tok → Type 0
-SegmentsMoved n l ss us rest = (xs : Segments) × (vs : List Tok) × SameToks rest vs × SegmentsForm n xs × SegmentsThen n l xs us vs × (segments_at site ss ≡ segments_at site xs) × (segments_count xs ≡ segments_count ss) × ((was : Bool) → gives_last was xs ≡ gives_last was ss) × ((was : Bool) → ends_segments was xs ≡ ends_segments was ss) × (Kept → SegmentsLengths ss → SegmentsLengths xs)
+SegmentsMoved n l ss us rest = (xs : Segments) × (vs : List Tok) × SameToks rest vs × SegmentsForm n xs × SegmentsThen n l xs us vs × (segments_at site ss ≡ segments_at site xs) × (segments_count xs ≡ segments_count ss) × ((was : Bool) → ends_segments was xs ≡ ends_segments was ss) × (Kept → SegmentsLengths ss → SegmentsLengths xs)
 
 abbrev PathMoved : PathD → List Tok → List Tok → Type 0
-PathMoved p us rest = (q : PathD) × (vs : List Tok) × SameToks rest vs × PathForm q × PathThen q us vs × (path_at site p ≡ path_at site q) × (gives_path q ≡ gives_path p) × (ends_path q ≡ ends_path p) × (Kept → PathLengths p → PathLengths q)
+PathMoved p us rest = (q : PathD) × (vs : List Tok) × SameToks rest vs × PathForm q × PathThen q us vs × (path_at site p ≡ path_at site q) × (ends_path q ≡ ends_path p) × (Kept → PathLengths p → PathLengths q)
 
 abbrev SegmentMoved : SegmentD → List Tok → List Tok → Type 0
-SegmentMoved s us rest = (y : SegmentD) × (vs : List Tok) × SameToks rest vs × SegmentForm y × SegmentThen y us vs × (segment_at site s ≡ segment_at site y) × (ends_segment y ≡ ends_segment s) × (gives_segment y ≡ gives_segment s) × (Kept → SegmentLengths s → SegmentLengths y)
+SegmentMoved s us rest = (y : SegmentD) × (vs : List Tok) × SameToks rest vs × SegmentForm y × SegmentThen y us vs × (segment_at site s ≡ segment_at site y) × (ends_segment y ≡ ends_segment s) × (Kept → SegmentLengths s → SegmentLengths y)
 
 abbrev ArgumentsMoved : ArgumentsD → List Tok → List Tok → Type 0
-ArgumentsMoved a us rest = (b : ArgumentsD) × (vs : List Tok) × SameToks rest vs × ArgumentsForm b × ArgumentsThen b us vs × (arguments_at site a ≡ arguments_at site b) × (ends_arguments b ≡ ends_arguments a) × ((x y : Name) → gives_segment (segment y b) ≡ gives_segment (segment x a)) × (Kept → ArgumentsLengths a → ArgumentsLengths b)
+ArgumentsMoved a us rest = (b : ArgumentsD) × (vs : List Tok) × SameToks rest vs × ArgumentsForm b × ArgumentsThen b us vs × (arguments_at site a ≡ arguments_at site b) × (ends_arguments b ≡ ends_arguments a) × (Kept → ArgumentsLengths a → ArgumentsLengths b)
 
 abbrev GenericMoved : GenericD → List Tok → List Tok → Type 0
 GenericMoved g us rest = (h : GenericD) × (vs : List Tok) × SameToks rest vs × GenericForm h × GenericThen h us vs × (generic_at site g ≡ generic_at site h) × (Kept → GenericLengths g → GenericLengths h)
@@ -266,7 +266,7 @@ mutual
       let a = path_moved p ts h.0 us f.0 h.2 k in
       let b = sign_moved 33 h.0 h.1 a.1 h.3 a.2 in
       let c = append_moved m rest h.1 b.0 h.4 b.2 in
-      (ty_macro a.0 c.0, c.1, c.4, (a.3, a.6 ∙ f.1, group_alone m c.0 f.2 c.3), (a.1, b.0, a.4, b.1, c.2), two ty_macro a.5 c.3, refl, a.8)
+      (ty_macro a.0 c.0, c.1, c.4, (a.3, path_gives p a.0 a.5 ∙ f.1, group_alone m c.0 f.2 c.3), (a.1, b.0, a.4, b.1, c.2), two ty_macro a.5 c.3, refl, a.7)
   ty_moved (ty_never s) ts rest us f h k =
       let w = mark_head 33 h.0 (bare rest) us (sym (ap bare h.1) ∙ k) in
       (ty_never w.0, w.1, w.3, tt, (h.0, w.2), refl, refl, λ q l. tt)
@@ -276,7 +276,7 @@ mutual
       (ty_paren a.0, g.1, g.4, a.3, (g.0, g.2, subst (λ z. TyThen a.0 (list_of g.0) z) (none_head a.1 a.2) a.4), ap ty_paren a.5, refl, a.7)
   ty_moved (ty_path no_qself (path l ss)) ts rest us f h k =
       let a = segments_moved ss 0 l h.0 rest us f.1.1 h.2 (same_moved ts h.0 us h.1 k) in
-      (ty_path no_qself (path l a.0), a.1, a.2, (tt, (subst (λ z. 0 < z) (sym a.6) f.1.0, a.3)), (us, refl, a.4), ap (λ z. ty_path no_qself (path l z)) a.5, a.8 false, λ q n. (tt, a.9 q n.1))
+      (ty_path no_qself (path l a.0), a.1, a.2, (tt, (subst (λ z. 0 < z) (sym a.6) f.1.0, a.3)), (us, refl, a.4), ap (λ z. ty_path no_qself (path l z)) a.5, a.7 false, λ q n. (tt, a.8 q n.1))
   ty_moved (ty_path (some_qself (qself t n)) (path l ss)) ts rest us f h k =
       let b = sign_moved 60 ts h.1.0 us h.1.2 k in
       let c = ty_moved t h.1.0 h.1.1 b.0 f.0.0 h.1.3 b.2 in
@@ -288,8 +288,8 @@ mutual
         ((c.3, subst (λ z. n < z) (sym a.6) f.0.1, f.0.2), (subst (λ z. 0 < z) (sym a.6) f.1.0, a.3)),
         (d.0, (b.0, c.1, b.1, c.4, d.1), a.4),
         two (λ y z. ty_path (some_qself (qself y n)) (path l z)) c.5 a.5,
-        a.8 false,
-        λ q m. (c.7 q m.0, a.9 q m.1),
+        a.7 false,
+        λ q m. (c.7 q m.0, a.8 q m.1),
       )
   ty_moved (ty_pointer m t) ts rest us f h k =
       let b = sign_moved 42 ts h.0 us h.2 k in
@@ -317,11 +317,11 @@ mutual
   ty_moved (ty_verbatim m) ts rest us f h k = absurd f
 
   output_moved : (o : MaybeTy) (ts rest us : List Tok) → OutputForm o → OutputThen o ts rest → SameToks ts us → OutputMoved o us rest
-  output_moved no_ty ts rest us f h k = (no_ty, us, same_moved ts rest us h k, tt, refl, refl, refl, (λ q l. tt), λ x y is js. refl)
+  output_moved no_ty ts rest us f h k = (no_ty, us, same_moved ts rest us h k, tt, refl, refl, refl, λ q l. tt)
   output_moved (some_ty t) ts rest us f h k =
       let b = pair_moved 45 62 ts h.0 us h.1 k in
       let a = ty_moved t h.0 rest b.0 f h.2 b.2 in
-      (some_ty a.0, a.1, a.2, a.3, (b.0, b.1, a.4), ap some_ty a.5, a.6, a.7, λ x y is js. refl)
+      (some_ty a.0, a.1, a.2, a.3, (b.0, b.1, a.4), ap some_ty a.5, a.6, a.7)
 
   tys_moved : (is : Tys) (c : Bool) (ts us : List Tok) → TysForm is → TysThen c is ts → SameToks ts us → TysMoved (TysThen c) is us
   tys_moved end_tys c ts us f h k = (end_tys, tt, (none_head us (same_moved ts [] us h.0 k), h.1), refl, refl, λ q l. tt)
@@ -341,7 +341,7 @@ mutual
   bound_moved : (b : BoundD) (ts rest us : List Tok) → BoundForm b → BoundThen b ts rest → SameToks ts us → BoundMoved b us rest
   bound_moved (bound_trait p) ts rest us f h k =
       let a = path_moved p ts rest us f h k in
-      (bound_trait a.0, a.1, a.2, a.3, a.4, ap bound_trait a.5, a.7, a.8)
+      (bound_trait a.0, a.1, a.2, a.3, a.4, ap bound_trait a.5, a.6, a.7)
   bound_moved (bound_lifetime l) ts rest us f h k =
       let a = lifetime_moved l ts rest us h k in
       (bound_lifetime a.0, a.1, a.4, tt, a.2, ap bound_lifetime a.3, refl, λ q l. tt)
@@ -355,7 +355,7 @@ mutual
 
   bounds_behind_moved : (bs : Bounds) (o : Bool) (ts rest us : List Tok) → BoundsForm bs → BoundsBehind o bs ts rest → SameToks ts us → BoundsMoved (BoundsBehind o) bs us rest
   bounds_behind_moved end_bounds o ts rest us f (inl h) k = (end_bounds, us, same_moved ts rest us h k, tt, inl refl, refl, refl, λ q l. tt)
-  bounds_behind_moved end_bounds o ts rest us f (inr h) k = let w = sign_moved 43 ts rest us h.0 k in (end_bounds, w.0, w.2, tt, inr (w.1, h.1), refl, refl, λ q l. tt)
+  bounds_behind_moved end_bounds o ts rest us f (inr h) k = let w = sign_moved 43 ts rest us h.0 k in (end_bounds, w.0, w.2, tt, inr (w.1, h.1, bound_next_same rest w.0 w.2 ∙ h.2), refl, refl, λ q l. tt)
   bounds_behind_moved (more_bounds b bs) o ts rest us f h k =
       let w = sign_moved 43 ts h.0 us h.2 k in
       let a = bound_moved b h.0 h.1 w.0 f.0 h.3 w.2 in
@@ -365,10 +365,10 @@ mutual
   path_moved : (p : PathD) (ts rest us : List Tok) → PathForm p → PathThen p ts rest → SameToks ts us → PathMoved p us rest
   path_moved (path l ss) ts rest us f h k =
       let a = segments_moved ss 0 l ts rest us f.1 h k in
-      (path l a.0, a.1, a.2, (subst (λ z. 0 < z) (sym a.6) f.0, a.3), a.4, ap (path l) a.5, a.7 false, a.8 false, a.9)
+      (path l a.0, a.1, a.2, (subst (λ z. 0 < z) (sym a.6) f.0, a.3), a.4, ap (path l) a.5, a.7 false, a.8)
 
   segments_moved : (ss : Segments) (n : ℕ) (l : Bool) (ts rest us : List Tok) → SegmentsForm n ss → SegmentsThen n l ss ts rest → SameToks ts us → SegmentsMoved n l ss us rest
-  segments_moved end_segments n l ts rest us f h k = (end_segments, us, same_moved ts rest us h k, tt, refl, refl, refl, (λ was. refl), (λ was. refl), λ q l. tt)
+  segments_moved end_segments n l ts rest us f h k = (end_segments, us, same_moved ts rest us h k, tt, refl, refl, refl, (λ was. refl), λ q l. tt)
   segments_moved (more_segments s ss) n l ts rest us f h k =
       let c = colons_moved l ts h.0 us h.3 k in
       let a = segment_moved s h.0 h.1 c.0 f.0 h.4 c.2 in
@@ -377,33 +377,32 @@ mutual
         more_segments a.0 b.0,
         b.1,
         b.2,
-        (a.3, (λ g. last_same ss b.0 n b.6 ∙ f.1 (sym a.7 ∙ g)), b.3),
+        (a.3, (λ g. last_same ss b.0 n b.6 ∙ f.1 (sym (segment_gives s a.0 a.5) ∙ g)), b.3),
         (c.0, a.1, d.0, c.1, a.4, d.1, b.4),
         two more_segments a.5 b.5,
         ap suc b.6,
-        (λ was. b.7 (gives_segment a.0) ∙ ap (λ z. gives_last z ss) a.7),
-        (λ was. b.8 (ends_segment a.0) ∙ ap (λ z. ends_segments z ss) a.6),
-        λ q l. (a.8 q l.0, b.9 q l.1),
+        (λ was. b.7 (ends_segment a.0) ∙ ap (λ z. ends_segments z ss) a.6),
+        λ q l. (a.7 q l.0, b.8 q l.1),
       )
 
   segment_moved : (s : SegmentD) (ts rest us : List Tok) → SegmentForm s → SegmentThen s ts rest → SameToks ts us → SegmentMoved s us rest
   segment_moved (segment x a) ts rest us f h k =
       let n = name_moved x ts h.0 us h.1 k in
       let b = arguments_moved a h.0 rest n.1 f.1 h.2 n.4 in
-      (segment n.0 b.0, b.1, b.2, (ap (λ z. is_reserved z.text) (sym n.3) ∙ f.0, b.3), (n.1, n.2, b.4), two segment n.3 b.5, b.6, b.7 x n.0, b.8)
+      (segment n.0 b.0, b.1, b.2, (ap (λ z. is_reserved z.text) (sym n.3) ∙ f.0, b.3), (n.1, n.2, b.4), two segment n.3 b.5, b.6, b.7)
 
   arguments_moved : (a : ArgumentsD) (ts rest us : List Tok) → ArgumentsForm a → ArgumentsThen a ts rest → SameToks ts us → ArgumentsMoved a us rest
-  arguments_moved no_arguments ts rest us f h k = (no_arguments, us, same_moved ts rest us h k, tt, refl, refl, refl, (λ x y. refl), λ q l. tt)
+  arguments_moved no_arguments ts rest us f h k = (no_arguments, us, same_moved ts rest us h k, tt, refl, refl, refl, λ q l. tt)
   arguments_moved (angle t gs) ts rest us f h k =
       let c = colons_moved t ts h.0 us h.2 k in
       let d = sign_moved 60 h.0 h.1 c.0 h.3 c.2 in
       let a = generics_moved gs h.1 rest d.0 f h.4 d.2 in
-      (angle t a.0, a.1, a.2, a.3, (c.0, d.0, c.1, d.1, a.4), ap (angle t) a.5, refl, (λ x y. refl), a.6)
+      (angle t a.0, a.1, a.2, a.3, (c.0, d.0, c.1, d.1, a.4), ap (angle t) a.5, refl, a.6)
   arguments_moved (parens is o) ts rest us f h k =
       let g = group_moved Parenthesis h.0 ts h.2 us h.3 k in
       let a = tys_moved is h.1 (list_of h.0) (list_of g.0) f.0 h.4 g.3 in
       let b = output_moved o h.2 rest g.1 f.1 h.5 g.4 in
-      (parens a.0 b.0, b.1, b.2, (a.1, b.3), (g.0, h.1, g.1, g.2, a.2, b.4), two parens a.3 b.5, b.6, (λ x y. b.8 x y is a.0), λ q l. (a.5 q l.0, b.7 q l.1))
+      (parens a.0 b.0, b.1, b.2, (a.1, b.3), (g.0, h.1, g.1, g.2, a.2, b.4), two parens a.3 b.5, b.6, λ q l. (a.5 q l.0, b.7 q l.1))
 
   generics_moved : (gs : Generics) (ts rest us : List Tok) → GenericsForm gs → GenericsThen gs ts rest → SameToks ts us → GenericsMoved GenericsThen gs us rest
   generics_moved end_generics ts rest us f h k = let w = sign_moved 62 ts rest us h k in (end_generics, w.0, w.2, tt, w.1, refl, λ q l. tt)
@@ -462,7 +461,7 @@ mutual
   expr_path_moved : (p : ExprPathD) (ts rest us : List Tok) → ExprPathForm p → ExprPathThen p ts rest → SameToks ts us → ExprPathMoved p us rest
   expr_path_moved (expr_path no_qself (path l ss)) ts rest us f h k =
       let a = segments_moved ss 0 l h.0 rest us f.1.1 h.2 (same_moved ts h.0 us h.1 k) in
-      (expr_path no_qself (path l a.0), a.1, a.2, (tt, (subst (λ z. 0 < z) (sym a.6) f.1.0, a.3)), (us, refl, a.4), ap (λ z. expr_path no_qself (path l z)) a.5, λ q n. (tt, a.9 q n.1))
+      (expr_path no_qself (path l a.0), a.1, a.2, (tt, (subst (λ z. 0 < z) (sym a.6) f.1.0, a.3)), (us, refl, a.4), ap (λ z. expr_path no_qself (path l z)) a.5, λ q n. (tt, a.8 q n.1))
   expr_path_moved (expr_path (some_qself (qself t n)) (path l ss)) ts rest us f h k =
       let b = sign_moved 60 ts h.1.0 us h.1.2 k in
       let c = ty_moved t h.1.0 h.1.1 b.0 f.0.0 h.1.3 b.2 in
@@ -474,7 +473,7 @@ mutual
         ((c.3, subst (λ z. n < z) (sym a.6) f.0.1, f.0.2), (subst (λ z. 0 < z) (sym a.6) f.1.0, a.3)),
         (d.0, (b.0, c.1, b.1, c.4, d.1), a.4),
         two (λ y z. expr_path (some_qself (qself y n)) (path l z)) c.5 a.5,
-        λ q m. (c.7 q m.0, a.9 q m.1),
+        λ q m. (c.7 q m.0, a.8 q m.1),
       )
 
 kept : Kept
@@ -490,7 +489,7 @@ ty_aside ts us t h k =
 pub path_aside : (ts us : List Tok) (p : PathD) → SpellsPath ts p → SameToks ts us → (q : PathD) × SpellsPath us q × SamePath p q
 path_aside ts us p h k =
     let a = path_moved p ts [] us h.0.0 h.1 k in
-    (a.0, ((a.3, a.8 kept h.0.1), subst (λ z. PathThen a.0 us z) (none_head a.1 a.2) a.4), a.5)
+    (a.0, ((a.3, a.7 kept h.0.1), subst (λ z. PathThen a.0 us z) (none_head a.1 a.2) a.4), a.5)
 
 pub expr_path_aside : (ts us : List Tok) (p : ExprPathD) → SpellsExprPath ts p → SameToks ts us → (q : ExprPathD) × SpellsExprPath us q × SameExprPath p q
 expr_path_aside ts us p h k =

@@ -1,12 +1,12 @@
 -- Exactly what is spelled is read.
 use Rattle.std.proofs.Common.{◌≡◌, Some, ℕ, ◌*◌, ◌<◌, List, [], ◌∷◌, refl, ap, sym, ◌∙◌, subst, arith}
-use Rattle.std.specs.Prelude.{◌↔◌, Result, Ok, Err}
+use Rattle.std.specs.Prelude.{◌↔◌, true, false, Result, Ok, Err}
 use Rattle.token_trees.specs.declared.token.Span.{Span}
 use Rattle.token_trees.specs.Token.{Tok}
 use Rattle.syntax_trees.specs.Syntax.{TyD, PathD, ExprPathD, BoundD, Bounds, bounds_of}
 use Rattle.syntax_trees.specs.declared.cursor.SyntaxError.{SyntaxError}
 use Rattle.syntax_parsers.specs.Fronts.{weight, sign_front}
-use Rattle.syntax_parsers.specs.Grammar.{whole, path_body}
+use Rattle.syntax_parsers.specs.Grammar.{whole, path_body, takes_ty, takes_bounds}
 use Rattle.syntax_parsers.specs.Read.{levels}
 use Rattle.syntax_parsers.specs.Spelling.{TyThen, PathThen, ExprPathThen, BoundsThen}
 use Rattle.syntax_parsers.specs.SpellingForm.{TyForm, PathForm, ExprPathForm, BoundsForm, TyLengths, PathLengths, ExprPathLengths, BoundsLengths, IsParsedTy, IsParsedBounds, SpellsTy, SpellsPath, SpellsExprPath, SpellsBounds}
@@ -14,14 +14,14 @@ use Rattle.syntax_parsers.specs.SpellingLaws.{ReadsTy, ReadsPath, ReadsExprPath,
 use Rattle.syntax_parsers.proofs.Results.{got, ok_same}
 use Rattle.syntax_parsers.proofs.spelling.Stands.{whole_ok, sign_stands}
 use Rattle.syntax_parsers.proofs.spelling.Read.{levels_printed, path_read}
-use Rattle.syntax_parsers.proofs.spelling.Halts.{Halt, Shut, halt_end, shut_end, halt_comma, shut_comma}
+use Rattle.syntax_parsers.proofs.spelling.Halts.{Halt, Shut, halt_pauses, halt_end, shut_end, halt_comma, shut_comma}
 use Rattle.syntax_parsers.proofs.spelling.Room.{ty_weight, path_weight, expr_path_weight, bounds_weight}
-use Rattle.syntax_parsers.proofs.spelling.Reach.{TyGot, PathGot, ExprPathGot, BoundsGot, levels_read, path_read_back}
+use Rattle.syntax_parsers.proofs.spelling.Reach.{TyGot, PathGot, ExprPathGot, BoundsGot, shut_over, levels_read, path_read_back}
 
 -- types
 
 ty_got : (n : ℕ) (at : Span) (ts : List Tok) (t : TyD) → 3 * weight ts < n → TyForm t → TyThen t ts [] → TyGot ((levels n).ty at ts) t []
-ty_got n at ts t m f h = let w = ty_weight t ts [] f h in (levels_read n).ty at t ts [] (omega (arith, m, w)) f h halt_end (λ q. shut_end)
+ty_got n at ts t m f h = let w = ty_weight t ts [] f h in (levels_read n).ty at t ts [] (omega (arith, m, w)) f h (halt_pauses (takes_ty false t) (takes_ty true t) [] halt_end) (λ q. shut_end.plus)
 
 pub ty_exact : (n : ℕ) (at : Span) (ts : List Tok) (t : TyD) → 3 * weight ts < n → ReadsTy n at ts t ↔ SpellsTy ts t
 ty_exact n at ts t m = (read, spelled)
@@ -40,7 +40,7 @@ ty_exact n at ts t m = (read, spelled)
 -- paths
 
 path_got : (n : ℕ) (at : Span) (ts : List Tok) (p : PathD) → 3 * weight ts < n → PathForm p → PathThen p ts [] → PathGot (path_body (levels n) at ts) p []
-path_got n at ts p m f h = let w = path_weight p ts [] f h in path_read_back (levels n) n (levels_read n) at p ts [] (omega (arith, m, w)) f h (halt_end.stops, (λ q. halt_end), λ q. shut_end)
+path_got n at ts p m f h = let w = path_weight p ts [] f h in path_read_back (levels n) n (levels_read n) at p ts [] (omega (arith, m, w)) f h (halt_end.stops, (λ q. halt_end.bang), λ q. shut_end.plus)
 
 pub path_exact : (n : ℕ) (at : Span) (ts : List Tok) (p : PathD) → 3 * weight ts < n → ReadsPath n at ts p ↔ SpellsPath ts p
 path_exact n at ts p m = (read, spelled)
@@ -78,7 +78,7 @@ expr_path_exact n at ts p m = (read, spelled)
 -- bounds
 
 bounds_got : (n : ℕ) (at : Span) (ts : List Tok) (bs : Bounds) → 3 * weight ts < n → BoundsForm bs → BoundsThen bs ts [] → BoundsGot ((levels n).bounds at ts) bs []
-bounds_got n at ts bs m f h = let w = bounds_weight bs ts [] f h in (levels_read n).bounds at bs ts [] (omega (arith, m, w)) f h halt_end shut_end
+bounds_got n at ts bs m f h = let w = bounds_weight bs ts [] f h in (levels_read n).bounds at bs ts [] (omega (arith, m, w)) f h (halt_pauses (takes_bounds false false bs) (takes_bounds true false bs) [] halt_end) (shut_over bs [] shut_end)
 
 bounds_same : (bs cs : List BoundD) → bounds_of bs ≡ bounds_of cs → bs ≡ cs
 bounds_same [] [] e = refl
@@ -124,7 +124,7 @@ pub ty_front_exact : (n : ℕ) (at : Span) (ts rest : List Tok) (t : TyD) → 3 
 ty_front_exact n at ts rest t m y z = (read, printed)
   where
     got : TyForm t → TyThen t ts rest → TyGot ((levels n).ty at ts) t rest
-    got f h = let w = ty_weight t ts rest f h in (levels_read n).ty at t ts rest (omega (arith, m, w)) f h y (λ q. z)
+    got f h = let w = ty_weight t ts rest f h in (levels_read n).ty at t ts rest (omega (arith, m, w)) f h (halt_pauses (takes_ty false t) (takes_ty true t) rest y) (λ q. z.plus)
 
     read : (levels n).ty at ts ≡ Ok (t, rest) → IsParsedTy t × TyThen t ts rest
     read q =
@@ -140,7 +140,7 @@ pub bounds_front_exact : (n : ℕ) (at : Span) (ts rest : List Tok) (bs : List B
 bounds_front_exact n at ts rest bs m y z = (read, printed)
   where
     got : BoundsForm (bounds_of bs) → BoundsThen (bounds_of bs) ts rest → BoundsGot ((levels n).bounds at ts) (bounds_of bs) rest
-    got f h = let w = bounds_weight (bounds_of bs) ts rest f h in (levels_read n).bounds at (bounds_of bs) ts rest (omega (arith, m, w)) f h y z
+    got f h = let w = bounds_weight (bounds_of bs) ts rest f h in (levels_read n).bounds at (bounds_of bs) ts rest (omega (arith, m, w)) f h (halt_pauses (takes_bounds false false (bounds_of bs)) (takes_bounds true false (bounds_of bs)) rest y) (shut_over (bounds_of bs) rest z)
 
     read : (levels n).bounds at ts ≡ Ok (bs, rest) → IsParsedBounds (bounds_of bs) × BoundsThen (bounds_of bs) ts rest
     read q =

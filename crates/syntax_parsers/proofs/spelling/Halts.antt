@@ -8,11 +8,11 @@ use Rattle.token_trees.specs.declared.token.Span.{Span}
 use Rattle.token_trees.specs.declared.token.Spacing.{Spacing}
 use Rattle.token_trees.specs.declared.token.Spacing.TheVariants.{Joint}
 use Rattle.token_trees.specs.Token.{Tok, word, mark, fixed, group}
-use Rattle.syntax_trees.specs.Syntax.{PathD, path, SegmentD, segment, no_arguments, angle, parens, BoundD, bound_trait, bound_lifetime, no_ty, some_ty, Segments, end_segments, more_segments}
+use Rattle.syntax_trees.specs.Syntax.{PathD, path, segment, BoundD, bound_trait, bound_lifetime, Segments, end_segments, more_segments}
 use Rattle.syntax_trees.specs.Metas.{is_sign, sign_next}
 use Rattle.syntax_parsers.specs.Fronts.{sign_front, colons_front, arrow_front, keyword_front, group_front, tree_front, lifetime_front, segment_front, bound_next, path_next, further_front, colon_front, angle_front, is_parens, is_reserved}
-use Rattle.syntax_parsers.specs.Grammar.{choose, gives_segment}
-use Rattle.syntax_parsers.specs.Spelling.{ends_segment, BoundThen, PathThen, SegmentsThen}
+use Rattle.syntax_parsers.specs.Grammar.{choose}
+use Rattle.syntax_parsers.specs.Spelling.{BoundThen, PathThen, SegmentsThen}
 use Rattle.syntax_parsers.proofs.spelling.Stands.{sign_stands}
 use Rattle.syntax_parsers.specs.SpellingForm.{segments_count, BoundForm, PathForm, SegmentsForm}
 
@@ -27,26 +27,46 @@ pub record Stops (ts : List Tok) : Type 0 where
   pub args : ArgStops ts
   pub further : further_front ts ≡ None
 
+-- no macro goes on here
+abbrev pub NoBang : List Tok → Type 0
+NoBang ts = choose (sign_front 33 ts) tree_front None ≡ None
+
 -- no type goes on here, but for a `+`
 pub record Halt (ts : List Tok) : Type 0 where
   pub stops : Stops ts
-  pub bang : choose (sign_front 33 ts) tree_front None ≡ None
+  pub bang : NoBang ts
+
+-- nothing goes on here that takes a `::` only where `c` says so, and the `!` of a macro only where `d` does
+pub record Pauses (c d : Bool) (ts : List Tok) : Type 0 where
+  pub args : ArgStops ts
+  pub further : c ≡ true → further_front ts ≡ None
+  pub bang : d ≡ true → NoBang ts
+
+pub halt_pauses : (c d : Bool) (ts : List Tok) → Halt ts → Pauses c d ts
+halt_pauses c d ts h = record { args = h.stops.args; further = λ q. h.stops.further; bang = λ q. h.bang }
+
+pub stops_pauses : (c d : Bool) (ts : List Tok) → Stops ts → (d ≡ true → NoBang ts) → Pauses c d ts
+stops_pauses c d ts h b = record { args = h.args; further = λ q. h.further; bang = b }
+
+pub pauses_stop : (d : Bool) (ts : List Tok) → Pauses true d ts → Stops ts
+pauses_stop d ts h = record { args = h.args; further = h.further refl }
+
+pub pauses_bare : (ts : List Tok) → ArgStops ts → Pauses false false ts
+pauses_bare ts h = record { args = h; further = λ q. absurd (cc); bang = λ q. absurd (cc) }
 
 -- no bounds go on here
 pub record Shut (ts : List Tok) : Type 0 where
   pub plus : sign_next 43 ts ≡ false
   pub bound : bound_next ts ≡ false
 
+-- where a printing ends in bounds, no further one stands behind it
 abbrev pub Ends : Bool → List Tok → Type 0
-Ends b ts = b ≡ true → Shut ts
+Ends b ts = b ≡ true → sign_next 43 ts ≡ false
 
 -- nothing of a name's own stands behind it
 pub record Unlabelled (ts : List Tok) : Type 0 where
   pub equals : sign_front 61 ts ≡ None
   pub colon : colon_front ts ≡ None
-
-pub vacuous : (ts : List Tok) → Ends false ts
-vacuous ts e = absurd (cc)
 
 pub halt_end : Halt []
 halt_end = record { stops = record { args = record { angle = refl; round = refl; arrow = refl }; further = refl }; bang = refl }
@@ -93,13 +113,6 @@ unlabelled_comma j s ts = record { equals = refl; colon = refl }
 
 pub unlabelled_close : (j : Spacing) (s : Span) (ts : List Tok) → Unlabelled (mark 62 j s ∷ ts)
 unlabelled_close j s ts = record { equals = refl; colon = refl }
-
--- a segment without a return type ends in no bounds
-pub no_return : (s : SegmentD) → gives_segment s ≡ false → ends_segment s ≡ false
-no_return (segment x no_arguments) h = refl
-no_return (segment x (angle t gs)) h = refl
-no_return (segment x (parens is no_ty)) h = refl
-no_return (segment x (parens is (some_ty t))) h = absurd (cc)
 
 -- words
 

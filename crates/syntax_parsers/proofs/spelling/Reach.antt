@@ -7,27 +7,27 @@ use Rattle.std.proofs.lemmas.List.{append-nil}
 use Rattle.token_trees.specs.declared.token.Span.{Span}
 use Rattle.token_trees.specs.declared.token.Spacing.TheVariants.{Joint}
 use Rattle.token_trees.specs.declared.token.Delimiter.TheVariants.{Parenthesis}
-use Rattle.token_trees.specs.Token.{Tok, word, mark, fixed, group, Toks, Name, list_of}
+use Rattle.token_trees.specs.Token.{Tok, word, mark, fixed, group, Toks, list_of}
 use Rattle.syntax_trees.specs.Syntax.{LifetimeD, TyD, ty_array, ty_fn, ty_group, ty_impl, ty_infer, ty_macro, ty_never, ty_paren, ty_path, ty_pointer, ty_reference, ty_slice, ty_object, ty_tuple, ty_verbatim, PathD, path, SegmentD, segment, ArgumentsD, no_arguments, angle, parens, GenericD, arg_lifetime, arg_ty, arg_const, arg_assoc_ty, arg_assoc_const, arg_constraint, qself, ExprD, ex_binary, ex_call, ex_cast, ex_field, ex_index, ex_fixed, ex_paren, ex_path, ex_unary, ex_verbatim, ExprPathD, expr_path, BoundD, bound_trait, bound_lifetime, MaybeTy, no_ty, some_ty, no_qself, some_qself, Tys, end_tys, more_tys, Bounds, end_bounds, more_bounds, Segments, end_segments, more_segments, Generics, end_generics, more_generics, tys_of, bounds_of, segments_of, generics_of}
 use Rattle.syntax_trees.specs.Metas.{sign_next}
 use Rattle.syntax_trees.specs.declared.cursor.SyntaxKind.TheVariants.{ExpectedIdent, ExpectedGt}
 use Rattle.syntax_trees.specs.declared.cursor.SyntaxError.{SyntaxError}
 use Rattle.syntax_parsers.specs.Answer.{◌>>=◌}
 use Rattle.syntax_parsers.specs.Fronts.{weight, sign_front, colons_front, arrow_front, keyword_front, name_front, group_front, tree_front, lifetime_front, segment_front, bound_next, path_next, further_front, colon_front, angle_front, labelled, is_parens}
-use Rattle.syntax_parsers.specs.Grammar.{Read, Readers, choose, required, whole, output_body, path_body, trait_body, behind_body, qualified_body, expr_path_body, other_length, length_body, bracketed_body, parenthesised, mut_front, maybe_lifetime_front, reference_body, pointer_body, signature_body, function_body, some_bounds, path_ty, ty_body, tys_body, bound_body, bounds_body, arguments_body, segment_body, segments_body, constant_front, generic_body, generics_body, gives_segment, gives_last, gives_path}
+use Rattle.syntax_parsers.specs.Grammar.{Read, Readers, choose, required, whole, output_body, path_body, trait_body, behind_body, qualified_body, expr_path_body, other_length, length_body, bracketed_body, parenthesised, mut_front, maybe_lifetime_front, reference_body, pointer_body, signature_body, function_body, some_bounds, path_ty, ty_body, tys_body, bound_body, bounds_body, arguments_body, segment_body, segments_body, constant_front, generic_body, generics_body, takes_ty, takes_output, takes_bounds, takes_bound, takes_segment, takes_arguments, gives_segment, gives_last, gives_path}
 use Rattle.syntax_parsers.specs.Read.{stuck, level, levels}
 use Rattle.syntax_parsers.specs.Spelling.{is_one, SignThen, PairThen, WordThen, GroupThen, MaybeLifetimeThen, MutThen, CloseThen, LastComma, ends_ty, ends_output, ends_path, ends_segments, ends_segment, ends_arguments, ends_bound, TyThen, OutputThen, TysThen, BoundThen, BoundsThen, BoundsBehind, PathThen, SegmentsThen, SegmentThen, ArgumentsThen, GenericsThen, GenericThen, ExprThen, ExprPathThen}
 use Rattle.syntax_parsers.specs.SpellingForm.{has_bounds, segments_count, IsGroup, IsConstant, TyForm, OutputForm, TysForm, BoundForm, BoundsForm, QSelfForm, PathForm, SegmentsForm, SegmentForm, ArgumentsForm, GenericsForm, GenericForm, LengthForm, ExprPathForm, IsNoLiteral, TyLengths, OutputLengths, TysLengths, BoundLengths, BoundsLengths, PathLengths, SegmentsLengths, SegmentLengths, ArgumentsLengths, GenericsLengths, GenericLengths, LengthHeld, ExprPathLengths}
 use Rattle.syntax_parsers.proofs.Results.{ok_same}
 use Rattle.syntax_parsers.proofs.spelling.Stands.{whole_ok}
 use Rattle.syntax_parsers.proofs.spelling.Read.{Printed, levels_printed}
-use Rattle.syntax_parsers.proofs.spelling.Halts.{ArgStops, Stops, Halt, Shut, Ends, Unlabelled, vacuous, halt_end, halt_comma, halt_close, halt_semicolon, halt_plus, halt_as, stops_bang, stops_further, shut_end, shut_comma, shut_close, shut_semicolon, shut_as, unlabelled_comma, unlabelled_close, no_return, not_keyword, segment_word, word_path, PathStart, at_colons, at_word, path_start, path_begins, start_no_lifetime, bound_begins}
+use Rattle.syntax_parsers.proofs.spelling.Halts.{ArgStops, Stops, NoBang, Halt, Pauses, halt_pauses, stops_pauses, pauses_stop, pauses_bare, Shut, Ends, Unlabelled, halt_end, halt_comma, halt_close, halt_semicolon, halt_plus, halt_as, stops_bang, stops_further, shut_end, shut_comma, shut_close, shut_as, unlabelled_comma, unlabelled_close, not_keyword, segment_word, word_path, PathStart, at_colons, at_word, path_start, path_begins, start_no_lifetime, bound_begins}
 use Rattle.syntax_parsers.proofs.spelling.Room.{room_ty, room_output, room_tys, room_bound, room_bounds, room_path, room_segments, room_segment, room_arguments, room_generics, room_generic, room_expr, room_expr_path, expr_path_weight}
 use Rattle.syntax_parsers.proofs.spelling.Begins.{plain_ty, colon_bounds}
 
 -- what reading gives: a tree, which is the one that was printed where its lengths are held as they should be
 abbrev pub TyGot : Read TyD → TyD → List Tok → Type 0
-TyGot v t rest = (u : TyD) × (v ≡ Ok (u, rest)) × (TyLengths t → u ≡ t) × TyLengths u
+TyGot v t rest = (u : TyD) × (v ≡ Ok (u, rest)) × (TyLengths t → u ≡ t) × TyLengths u × ((c : Bool) → takes_ty c u ≡ takes_ty c t)
 
 abbrev pub tys_count : Tys → ℕ
 tys_count end_tys = 0
@@ -37,19 +37,19 @@ abbrev pub TysGot : Result (List TyD × Bool) SyntaxError → Tys → Bool → T
 TysGot v is c = (us : List TyD) × (v ≡ Ok (us, c)) × (length us ≡ tys_count is) × (TysLengths is → tys_of us ≡ is) × TysLengths (tys_of us)
 
 abbrev pub BoundGot : Read BoundD → BoundD → List Tok → Type 0
-BoundGot v b rest = (u : BoundD) × (v ≡ Ok (u, rest)) × (BoundLengths b → u ≡ b) × BoundLengths u
+BoundGot v b rest = (u : BoundD) × (v ≡ Ok (u, rest)) × (BoundLengths b → u ≡ b) × BoundLengths u × ((c : Bool) → takes_bound c u ≡ takes_bound c b)
 
 abbrev pub BoundsGot : Read (List BoundD) → Bounds → List Tok → Type 0
-BoundsGot v bs rest = (us : List BoundD) × (v ≡ Ok (us, rest)) × (BoundsLengths bs → bounds_of us ≡ bs) × BoundsLengths (bounds_of us)
+BoundsGot v bs rest = (us : List BoundD) × (v ≡ Ok (us, rest)) × (BoundsLengths bs → bounds_of us ≡ bs) × BoundsLengths (bounds_of us) × ((c was : Bool) → takes_bounds c was (bounds_of us) ≡ takes_bounds c was bs)
 
 abbrev pub SegmentsGot : Read (List SegmentD) → Segments → List Tok → Type 0
 SegmentsGot v ss rest = (us : List SegmentD) × (v ≡ Ok (us, rest)) × (length us ≡ segments_count ss) × ((was : Bool) → gives_last was (segments_of us) ≡ gives_last was ss) × (SegmentsLengths ss → segments_of us ≡ ss) × SegmentsLengths (segments_of us)
 
 abbrev pub SegmentGot : Read SegmentD → SegmentD → List Tok → Type 0
-SegmentGot v s rest = (u : SegmentD) × (v ≡ Ok (u, rest)) × (gives_segment u ≡ gives_segment s) × (SegmentLengths s → u ≡ s) × SegmentLengths u
+SegmentGot v s rest = (u : SegmentD) × (v ≡ Ok (u, rest)) × ((c : Bool) → takes_segment c u ≡ takes_segment c s) × (SegmentLengths s → u ≡ s) × SegmentLengths u
 
-abbrev pub ArgumentsGot : Read ArgumentsD → Name → ArgumentsD → List Tok → Type 0
-ArgumentsGot v x a rest = (u : ArgumentsD) × (v ≡ Ok (u, rest)) × (gives_segment (segment x u) ≡ gives_segment (segment x a)) × (ArgumentsLengths a → u ≡ a) × ArgumentsLengths u
+abbrev pub ArgumentsGot : Read ArgumentsD → ArgumentsD → List Tok → Type 0
+ArgumentsGot v a rest = (u : ArgumentsD) × (v ≡ Ok (u, rest)) × ((c : Bool) → takes_arguments c u ≡ takes_arguments c a) × (ArgumentsLengths a → u ≡ a) × ArgumentsLengths u
 
 abbrev pub PathGot : Read PathD → PathD → List Tok → Type 0
 PathGot v p rest = (u : PathD) × (v ≡ Ok (u, rest)) × (gives_path u ≡ gives_path p) × (PathLengths p → u ≡ p) × PathLengths u
@@ -66,14 +66,21 @@ ExprGot v e = (u : ExprD) × (v ≡ Ok u) × (LengthHeld e → u ≡ e) × Lengt
 abbrev pub ExprPathGot : Read ExprPathD → ExprPathD → List Tok → Type 0
 ExprPathGot v p rest = (u : ExprPathD) × (v ≡ Ok (u, rest)) × (ExprPathLengths p → u ≡ p) × ExprPathLengths u
 
--- what stands behind a path, by the path's last segment
+-- what stands behind a path: whether its end takes the `!` of a macro, and whether it ends in bounds
 abbrev pub Beyond : Bool → Bool → List Tok → Type 0
-Beyond back ends ts = Stops ts × (back ≡ true → Halt ts) × Ends ends ts
+Beyond back ends ts = Stops ts × (back ≡ true → NoBang ts) × Ends ends ts
+
+-- no bound more stands here
+abbrev pub Over : Bounds → List Tok → Type 0
+Over bs ts = (sign_next 43 ts ≡ false) × (has_bounds bs ≡ false → bound_next ts ≡ false)
+
+pub shut_over : (bs : Bounds) (ts : List Tok) → Shut ts → Over bs ts
+shut_over bs ts h = (h.plus, λ q. h.bound)
 
 pub record Reads (r : Readers) (k : ℕ) : Type 0 where
-  pub ty : (at : Span) (t : TyD) (ts rest : List Tok) → room_ty t ≤ k → TyForm t → TyThen t ts rest → Halt rest → Ends (ends_ty t) rest → TyGot (r.ty at ts) t rest
+  pub ty : (at : Span) (t : TyD) (ts rest : List Tok) → room_ty t ≤ k → TyForm t → TyThen t ts rest → Pauses (takes_ty false t) (takes_ty true t) rest → Ends (ends_ty t) rest → TyGot (r.ty at ts) t rest
   pub tys : (at : Span) (is : Tys) (c : Bool) (ts : List Tok) → room_tys is ≤ k → TysForm is → TysThen c is ts → TysGot (r.tys at ts) is c
-  pub bounds : (at : Span) (bs : Bounds) (ts rest : List Tok) → room_bounds bs ≤ k → BoundsForm bs → BoundsThen bs ts rest → Halt rest → Shut rest → BoundsGot (r.bounds at ts) bs rest
+  pub bounds : (at : Span) (bs : Bounds) (ts rest : List Tok) → room_bounds bs ≤ k → BoundsForm bs → BoundsThen bs ts rest → Pauses (takes_bounds false false bs) (takes_bounds true false bs) rest → Over bs rest → BoundsGot (r.bounds at ts) bs rest
   pub segments : (at : Span) (ss : Segments) (ts rest : List Tok) → room_segments ss ≤ k → 0 < segments_count ss → SegmentsForm 0 ss → SegmentsThen 0 false ss ts rest → Beyond (gives_last false ss) (ends_segments false ss) rest → SegmentsGot (r.segments at ts) ss rest
   pub generics : (at : Span) (gs : Generics) (ts rest : List Tok) → room_generics gs ≤ k → GenericsForm gs → GenericsThen gs ts rest → GenericsGot (r.generics at ts) gs rest
   pub expr_path : (at : Span) (p : ExprPathD) (ts : List Tok) → room_expr_path p ≤ k → ExprPathForm p → ExprPathThen p ts [] → ExprPathGot (r.expr_path at ts) p []
@@ -115,94 +122,83 @@ path_read_back r k w at (path l ss) ts rest m f h b = path_got r k w at l ss ts 
 
 -- what a function gives back
 
-abbrev gives_back : MaybeTy → Bool
-gives_back no_ty = false
-gives_back (some_ty t) = true
-
 abbrev OutGot : Read MaybeTy → MaybeTy → List Tok → Type 0
-OutGot v o rest = (u : MaybeTy) × (v ≡ Ok (u, rest)) × (gives_back u ≡ gives_back o) × (OutputLengths o → u ≡ o) × OutputLengths u
+OutGot v o rest = (u : MaybeTy) × (v ≡ Ok (u, rest)) × ((c : Bool) → takes_output c u ≡ takes_output c o) × (OutputLengths o → u ≡ o) × OutputLengths u
 
-output_got : (r : Readers) (k : ℕ) → Reads r k → (at : Span) (o : MaybeTy) (ts rest : List Tok) → room_output o ≤ k → OutputForm o → OutputThen o ts rest → ArgStops rest → (gives_back o ≡ true → Halt rest) → Ends (ends_output o) rest → OutGot (output_body r at ts) o rest
+output_got : (r : Readers) (k : ℕ) → Reads r k → (at : Span) (o : MaybeTy) (ts rest : List Tok) → room_output o ≤ k → OutputForm o → OutputThen o ts rest → Pauses (takes_output false o) (takes_output true o) rest → Ends (ends_output o) rest → OutGot (output_body r at ts) o rest
 unfolding output_body
-output_got r k w at no_ty ts rest m f h b c d = subst (λ z. OutGot (output_body r at z) no_ty rest) (sym h) (no_ty, choose_none (arrow_front rest) _ _ b.arrow, refl, (λ q. refl), tt)
-output_got r k w at (some_ty t) ts rest m f h b c d =
-    let g = w.ty at t h.0 rest m f h.2 (c refl) d in
+output_got r k w at no_ty ts rest m f h b d = subst (λ z. OutGot (output_body r at z) no_ty rest) (sym h) (no_ty, choose_none (arrow_front rest) _ _ b.args.arrow, (λ c. refl), (λ q. refl), tt)
+output_got r k w at (some_ty t) ts rest m f h b d =
+    let g = w.ty at t h.0 rest m f h.2 b d in
     subst (λ z. OutGot (output_body r at z) (some_ty t) rest) (sym h.1.3)
-    (some_ty g.0, ap (λ z. z >>= λ u. Ok (some_ty u.0, u.1)) g.1, refl, (λ q. ap some_ty (g.2 q)), g.3)
+    (some_ty g.0, ap (λ z. z >>= λ u. Ok (some_ty u.0, u.1)) g.1, g.4, (λ q. ap some_ty (g.2 q)), g.3)
 
 abbrev SignatureGot : Result (List TyD × MaybeTy × List Tok) SyntaxError → Tys → MaybeTy → List Tok → Type 0
-SignatureGot v is o rest = (us : List TyD) × (u : MaybeTy) × (v ≡ Ok (us, u, rest)) × (gives_back u ≡ gives_back o) × (TysLengths is → tys_of us ≡ is) × (OutputLengths o → u ≡ o) × TysLengths (tys_of us) × OutputLengths u
+SignatureGot v is o rest = (us : List TyD) × (u : MaybeTy) × (v ≡ Ok (us, u, rest)) × ((c : Bool) → takes_output c u ≡ takes_output c o) × (TysLengths is → tys_of us ≡ is) × (OutputLengths o → u ≡ o) × TysLengths (tys_of us) × OutputLengths u
 
-signature_got : (r : Readers) (k : ℕ) → Reads r k → (at s : Span) (us : Toks) (is : Tys) (c : Bool) (o : MaybeTy) (ts rest : List Tok) → room_tys is + room_output o ≤ k → TysForm is → OutputForm o → TysThen c is (list_of us) → OutputThen o ts rest → ArgStops rest → (gives_back o ≡ true → Halt rest) → Ends (ends_output o) rest → SignatureGot (signature_body r (list_of us, s, ts) at) is o rest
+signature_got : (r : Readers) (k : ℕ) → Reads r k → (at s : Span) (us : Toks) (is : Tys) (c : Bool) (o : MaybeTy) (ts rest : List Tok) → room_tys is + room_output o ≤ k → TysForm is → OutputForm o → TysThen c is (list_of us) → OutputThen o ts rest → Pauses (takes_output false o) (takes_output true o) rest → Ends (ends_output o) rest → SignatureGot (signature_body r (list_of us, s, ts) at) is o rest
 unfolding signature_body
-signature_got r k w at s us is c o ts rest m f i h n b back d =
+signature_got r k w at s us is c o ts rest m f i h n b d =
     let g = w.tys s is c (list_of us) (omega (arith, m)) f h in
-    let q = output_got r k w at o ts rest (omega (arith, m)) i n b back d in
+    let q = output_got r k w at o ts rest (omega (arith, m)) i n b d in
     (g.0, q.0, bind_at (r.tys s (list_of us)) _ _ g.1 ∙ bind_at (output_body r at ts) _ _ q.1, q.2, g.3, q.3, g.4, q.4)
 
 -- segments
 
-same_back : (x : Name) (is js : Tys) (o u : MaybeTy) → gives_back u ≡ gives_back o → gives_segment (segment x (parens js u)) ≡ gives_segment (segment x (parens is o))
-same_back x is js no_ty no_ty e = refl
-same_back x is js no_ty (some_ty t) e = absurd (cc)
-same_back x is js (some_ty v) no_ty e = absurd (cc)
-same_back x is js (some_ty v) (some_ty t) e = refl
-
-back_segment : (x : Name) (is : Tys) (o : MaybeTy) → gives_back o ≡ true → gives_segment (segment x (parens is o)) ≡ true
-back_segment x is no_ty e = absurd (cc)
-back_segment x is (some_ty t) e = refl
-
-arguments_got : (r : Readers) (k : ℕ) → Reads r k → (at : Span) (x : Name) (a : ArgumentsD) (ts rest : List Tok) → room_arguments a ≤ k → ArgumentsForm a → ArgumentsThen a ts rest → ArgStops rest → (gives_segment (segment x a) ≡ true → Halt rest) → Ends (ends_arguments a) rest → ArgumentsGot (arguments_body r at ts) x a rest
+arguments_got : (r : Readers) (k : ℕ) → Reads r k → (at : Span) (a : ArgumentsD) (ts rest : List Tok) → room_arguments a ≤ k → ArgumentsForm a → ArgumentsThen a ts rest → Pauses (takes_arguments false a) (takes_arguments true a) rest → Ends (ends_arguments a) rest → ArgumentsGot (arguments_body r at ts) a rest
 unfolding arguments_body
-arguments_got r k w at x no_arguments ts rest m f h b c d =
-    subst (λ z. ArgumentsGot (arguments_body r at z) x no_arguments rest) (sym h)
-    (no_arguments, choose_none (angle_front rest) _ _ b.angle ∙ choose_none (group_front is_parens rest) _ _ b.round, refl, (λ q. refl), tt)
-arguments_got r k w at x (angle true gs) ts rest m f h b c d =
+arguments_got r k w at no_arguments ts rest m f h b d =
+    subst (λ z. ArgumentsGot (arguments_body r at z) no_arguments rest) (sym h)
+    (no_arguments, choose_none (angle_front rest) _ _ b.args.angle ∙ choose_none (group_front is_parens rest) _ _ b.args.round, (λ c. refl), (λ q. refl), tt)
+arguments_got r k w at (angle true gs) ts rest m f h b d =
     let g = w.generics at gs h.1 rest m f h.4 in
     let e : ts ≡ mark 58 Joint h.2.0 ∷ mark 58 h.2.1 h.2.2 ∷ mark 60 h.3.0 h.3.1 ∷ h.1 = h.2.3 ∙ ap (λ z. mark 58 Joint h.2.0 ∷ mark 58 h.2.1 h.2.2 ∷ z) h.3.2 in
-    subst (λ z. ArgumentsGot (arguments_body r at z) x (angle true gs) rest) (sym e)
-    (angle true (generics_of g.0), ap (λ z. z >>= λ u. Ok (angle true (generics_of u.0), u.1)) g.1, refl, (λ q. ap (angle true) (g.2 q)), g.3)
-arguments_got r k w at x (angle false gs) ts rest m f h b c d =
+    subst (λ z. ArgumentsGot (arguments_body r at z) (angle true gs) rest) (sym e)
+    (angle true (generics_of g.0), ap (λ z. z >>= λ u. Ok (angle true (generics_of u.0), u.1)) g.1, (λ c. refl), (λ q. ap (angle true) (g.2 q)), g.3)
+arguments_got r k w at (angle false gs) ts rest m f h b d =
     let g = w.generics at gs h.1 rest m f h.4 in
-    subst (λ z. ArgumentsGot (arguments_body r at z) x (angle false gs) rest) (sym (h.2 ∙ h.3.2))
-    (angle false (generics_of g.0), ap (λ z. z >>= λ u. Ok (angle false (generics_of u.0), u.1)) g.1, refl, (λ q. ap (angle false) (g.2 q)), g.3)
-arguments_got r k w at x (parens is o) ts rest m f h b c d =
-    let g = signature_got r k w at h.3.0 h.0 is h.1 o h.2 rest m f.0 f.1 h.4 h.5 b (λ q. c (back_segment x is o q)) d in
-    subst (λ z. ArgumentsGot (arguments_body r at z) x (parens is o) rest) (sym h.3.1)
-    (parens (tys_of g.0) g.1, ap (λ z. z >>= λ u. Ok (parens (tys_of u.0) u.1, u.2)) g.2, same_back x is (tys_of g.0) o g.1 g.3, (λ q. ap (λ z. parens z g.1) (g.4 q.0) ∙ ap (parens is) (g.5 q.1)), (g.6, g.7))
+    subst (λ z. ArgumentsGot (arguments_body r at z) (angle false gs) rest) (sym (h.2 ∙ h.3.2))
+    (angle false (generics_of g.0), ap (λ z. z >>= λ u. Ok (angle false (generics_of u.0), u.1)) g.1, (λ c. refl), (λ q. ap (angle false) (g.2 q)), g.3)
+arguments_got r k w at (parens is o) ts rest m f h b d =
+    let g = signature_got r k w at h.3.0 h.0 is h.1 o h.2 rest m f.0 f.1 h.4 h.5 b d in
+    subst (λ z. ArgumentsGot (arguments_body r at z) (parens is o) rest) (sym h.3.1)
+    (parens (tys_of g.0) g.1, ap (λ z. z >>= λ u. Ok (parens (tys_of u.0) u.1, u.2)) g.2, g.3, (λ q. ap (λ z. parens z g.1) (g.4 q.0) ∙ ap (parens is) (g.5 q.1)), (g.6, g.7))
 
-segment_got : (r : Readers) (k : ℕ) → Reads r k → (at : Span) (s : SegmentD) (ts rest : List Tok) → room_segment s ≤ k → SegmentForm s → SegmentThen s ts rest → ArgStops rest → (gives_segment s ≡ true → Halt rest) → Ends (ends_segment s) rest → SegmentGot (segment_body r at ts) s rest
+segment_got : (r : Readers) (k : ℕ) → Reads r k → (at : Span) (s : SegmentD) (ts rest : List Tok) → room_segment s ≤ k → SegmentForm s → SegmentThen s ts rest → Pauses (takes_segment false s) (takes_segment true s) rest → Ends (ends_segment s) rest → SegmentGot (segment_body r at ts) s rest
 unfolding segment_body
-segment_got r k w at (segment x a) ts rest m f h b c d =
-    let g = arguments_got r k w at x a h.0 rest m f.1 h.2 b c d in
+segment_got r k w at (segment x a) ts rest m f h b d =
+    let g = arguments_got r k w at a h.0 rest m f.1 h.2 b d in
     let e : segment_front ts ≡ Some (x, h.0) = ap segment_front h.1 ∙ segment_word x.text x.span h.0 f.0 in
     (segment x g.0, ap (λ z. required z ExpectedIdent at ts >>= λ y. arguments_body r at y.1 >>= λ v. Ok (segment y.0 v.0, v.1)) e ∙ bind_at (arguments_body r at h.0) _ _ g.1, g.2, (λ q. ap (segment x) (g.3 q)), g.4)
 
-further_at : (x : List ℕ) (v : Span) (b ts a : List Tok) → PairThen 58 58 ts a → a ≡ word x v ∷ b → (further_front ts ≡ Some a) × ArgStops ts
+further_at : (x : List ℕ) (v : Span) (b ts a : List Tok) → PairThen 58 58 ts a → a ≡ word x v ∷ b → (further_front ts ≡ Some a) × ArgStops ts × NoBang ts × (sign_next 43 ts ≡ false)
 further_at x v b ts a p e =
     let q : ts ≡ mark 58 Joint p.0 ∷ mark 58 p.1 p.2 ∷ word x v ∷ b = p.3 ∙ ap (λ z. mark 58 Joint p.0 ∷ mark 58 p.1 p.2 ∷ z) e in
-    (ap further_front q ∙ ap Some (sym e), subst ArgStops (sym q) (stops_further p.0 p.2 v p.1 x b))
+    (ap further_front q ∙ ap Some (sym e), subst ArgStops (sym q) (stops_further p.0 p.2 v p.1 x b), ap (λ z. choose (sign_front 33 z) tree_front None) q, ap (sign_next 43) q)
 
 segments_got : (r : Readers) (k : ℕ) → Reads r k → (at : Span) (ss : Segments) (ts rest : List Tok) → room_segments ss ≤ suc k → 0 < segments_count ss → SegmentsForm 0 ss → SegmentsThen 0 false ss ts rest → Beyond (gives_last false ss) (ends_segments false ss) rest → SegmentsGot (segments_body r at ts) ss rest
 unfolding segments_body
 segments_got r k w at end_segments ts rest m c f h b = absurd (omega (arith, c))
 segments_got r k w at (more_segments s end_segments) ts rest m c f h b =
     let t = subst (λ z. SegmentThen s z rest) (sym h.3) (subst (λ z. SegmentThen s h.0 z) (h.5 ∙ h.6) h.4) in
-    let g = segment_got r k w at s ts rest (omega (arith, m)) f.0 t b.0.args b.1 b.2 in
-    (g.0 ∷ [], bind_at (segment_body r at ts) _ _ g.1 ∙ choose_none (cond (gives_segment g.0) None (further_front rest)) _ _ (cond_none (gives_segment g.0) (further_front rest) b.0.further), refl, (λ was. g.2), (λ q. ap (λ z. more_segments z end_segments) (g.3 q.0)), (g.4, tt))
+    let g = segment_got r k w at s ts rest (omega (arith, m)) f.0 t (stops_pauses (takes_segment false s) (takes_segment true s) rest b.0 b.1) b.2 in
+    (g.0 ∷ [], bind_at (segment_body r at ts) _ _ g.1 ∙ choose_none (cond (gives_segment g.0) None (further_front rest)) _ _ (cond_none (gives_segment g.0) (further_front rest) b.0.further), refl, (λ was. g.2 true), (λ q. ap (λ z. more_segments z end_segments) (g.3 q.0)), (g.4, tt))
 segments_got r k w at (more_segments s (more_segments (segment x a) ss)) ts rest m c f h b =
     let back : gives_segment s ≡ false = not_last (gives_segment s) f.1 in
     let u = unled (more_segments (segment x a) ss) h.2 rest (omega arith) h.6 in
-    let e : further_front h.2 ≡ Some u.0 × ArgStops h.2 = further_at x.text x.span u.2.4.0 h.2 u.0 u.1 (u.2.3 ∙ u.2.4.1) in
+    let e = further_at x.text x.span u.2.4.0 h.2 u.0 u.1 (u.2.3 ∙ u.2.4.1) in
     let t = subst (λ z. SegmentThen s z h.2) (sym h.3) (subst (λ z. SegmentThen s h.0 z) h.5 h.4) in
-    let g = segment_got r k w at s ts h.2 (omega (arith, m)) f.0 t e.1 (λ q. absurd (cc)) (subst (λ z. Ends z h.2) (sym (no_return s back)) (vacuous h.2)) in
+    let g = segment_got r k w at s ts h.2 (omega (arith, m)) f.0 t (behind s h.2 back e.1 e.2) (λ q. e.3) in
     let d = w.segments at (more_segments (segment x a) ss) u.0 rest (omega (arith, m)) (omega arith) f.2 u.2 b in
-    let v : cond (gives_segment g.0) None (further_front h.2) ≡ Some u.0 = ap (λ z. cond z None (further_front h.2)) (g.2 ∙ back) ∙ e.0 in
-    (g.0 ∷ d.0, bind_at (segment_body r at ts) _ _ g.1 ∙ choose_at (cond (gives_segment g.0) None (further_front h.2)) _ _ u.0 v ∙ bind_at (r.segments at u.0) _ _ d.1, ap suc d.2, (λ was. d.3 (gives_segment g.0)), (λ q. ap (λ z. more_segments z (segments_of d.0)) (g.3 q.0) ∙ ap (more_segments s) (d.4 q.1)), (g.4, d.5))
+    let v : cond (gives_segment g.0) None (further_front h.2) ≡ Some u.0 = ap (λ z. cond z None (further_front h.2)) (g.2 false ∙ back) ∙ e.0 in
+    (g.0 ∷ d.0, bind_at (segment_body r at ts) _ _ g.1 ∙ choose_at (cond (gives_segment g.0) None (further_front h.2)) _ _ u.0 v ∙ bind_at (r.segments at u.0) _ _ d.1, ap suc d.2, (λ was. d.3 (takes_segment true g.0) ∙ ap (λ z. gives_last z (more_segments (segment x a) ss)) (g.2 true)), (λ q. ap (λ z. more_segments z (segments_of d.0)) (g.3 q.0) ∙ ap (more_segments s) (d.4 q.1)), (g.4, d.5))
   where
     not_last : (z : Bool) → (z ≡ true → false ≡ true) → z ≡ false
     not_last true q = let v = q refl in absurd (cc)
     not_last false q = refl
+
+    behind : (s : SegmentD) (ts : List Tok) → gives_segment s ≡ false → ArgStops ts → NoBang ts → Pauses (takes_segment false s) (takes_segment true s) ts
+    behind s ts back a n = record { args = a; further = λ q. absurd (cc); bang = λ q. n }
 
 -- bounds
 
@@ -216,40 +212,41 @@ absent : (c : ℕ) (ts : List Tok) → sign_next c ts ≡ false → sign_front c
 absent c [] e = refl
 absent c (t ∷ ts) e = ap (λ z. cond z (Some ts) None) e
 
-bound_got : (r : Readers) (k : ℕ) → Reads r k → (at : Span) (b : BoundD) (ts rest : List Tok) → room_bound b ≤ k → BoundForm b → BoundThen b ts rest → Halt rest → Ends (ends_bound b) rest → BoundGot (bound_body r at ts) b rest
+bound_got : (r : Readers) (k : ℕ) → Reads r k → (at : Span) (b : BoundD) (ts rest : List Tok) → room_bound b ≤ k → BoundForm b → BoundThen b ts rest → Pauses (takes_bound false b) (takes_bound true b) rest → Ends (ends_bound b) rest → BoundGot (bound_body r at ts) b rest
 unfolding bound_body
 bound_got r k w at (bound_trait p) ts rest m f h c d =
-    let g = path_read_back r k w at p ts rest m f h (c.stops, (λ q. c), d) in
-    (bound_trait g.0, choose_none (lifetime_front ts) _ _ (start_no_lifetime ts (path_begins p ts rest f h)) ∙ bind_at (path_body r at ts) _ _ g.1, (λ q. ap bound_trait (g.3 q)), g.4)
-bound_got r k w at (bound_lifetime l) ts rest m f h c d = subst (λ z. BoundGot (bound_body r at z) (bound_lifetime l) rest) (sym h) (bound_lifetime l, refl, (λ q. refl), tt)
+    let g = path_read_back r k w at p ts rest m f h (pauses_stop (gives_path p) rest c, c.bang, d) in
+    (bound_trait g.0, choose_none (lifetime_front ts) _ _ (start_no_lifetime ts (path_begins p ts rest f h)) ∙ bind_at (path_body r at ts) _ _ g.1, (λ q. ap bound_trait (g.3 q)), g.4, λ z. ap (λ y. cond z y true) g.2)
+bound_got r k w at (bound_lifetime l) ts rest m f h c d = subst (λ z. BoundGot (bound_body r at z) (bound_lifetime l) rest) (sym h) (bound_lifetime l, refl, (λ q. refl), tt, λ z. refl)
 
 abbrev behind_bound : Readers → Span → BoundD → List Tok → Read (List BoundD)
 behind_bound r at u ts = choose (sign_front 43 ts) (λ a. r.bounds at a >>= λ more. Ok (u ∷ more.0, more.1)) (Ok (u ∷ [], ts))
 
-abbrev TailGot : Readers → Span → Bool → Bounds → List Tok → List Tok → Type 0
-TailGot r at o bs ts rest = (us : List BoundD) × Halt ts × Ends o ts × ((u : BoundD) → behind_bound r at u ts ≡ Ok (u ∷ us, rest)) × (BoundsLengths bs → bounds_of us ≡ bs) × BoundsLengths (bounds_of us)
+-- behind a bound whose end takes a `::` where c says so, and a `!` where d does
+abbrev TailGot : Readers → Span → Bool → Bool → Bool → Bounds → List Tok → List Tok → Type 0
+TailGot r at o c d bs ts rest = (us : List BoundD) × Pauses c d ts × Ends o ts × ((u : BoundD) → behind_bound r at u ts ≡ Ok (u ∷ us, rest)) × (BoundsLengths bs → bounds_of us ≡ bs) × BoundsLengths (bounds_of us) × ((z was : Bool) → takes_bounds z was (bounds_of us) ≡ takes_bounds z was bs)
 
-plus_got : (r : Readers) (k : ℕ) → Reads r k → (at : Span) (o : Bool) (bs : Bounds) (ts a rest : List Tok) → room_bounds bs ≤ k → o ≡ false → BoundsForm bs → SignThen 43 ts a → BoundsThen bs a rest → Halt rest → Shut rest → TailGot r at o bs ts rest
-plus_got r k w at o bs ts a rest m n f p h c d =
-    let g = w.bounds at bs a rest m f h c d in
-    subst (λ z. TailGot r at o bs z rest) (sym p.2)
-    (g.0, halt_plus p.0 p.1 a, subst (λ z. Ends z (mark 43 p.0 p.1 ∷ a)) (sym n) (vacuous (mark 43 p.0 p.1 ∷ a)), (λ u. bind_at (r.bounds at a) _ _ g.1), g.2, g.3)
+plus_got : (r : Readers) (k : ℕ) → Reads r k → (at : Span) (o c d : Bool) (bs : Bounds) (ts a rest : List Tok) → room_bounds bs ≤ k → o ≡ false → BoundsForm bs → SignThen 43 ts a → BoundsThen bs a rest → Pauses (takes_bounds false false bs) (takes_bounds true false bs) rest → Over bs rest → TailGot r at o c d bs ts rest
+plus_got r k w at o c d bs ts a rest m n f p h x y =
+    let g = w.bounds at bs a rest m f h x y in
+    subst (λ z. TailGot r at o c d bs z rest) (sym p.2)
+    (g.0, halt_pauses c d (mark 43 p.0 p.1 ∷ a) (halt_plus p.0 p.1 a), (λ q. absurd (cc)), (λ u. bind_at (r.bounds at a) _ _ g.1), g.2, g.3, g.4)
 
-tail_got : (r : Readers) (k : ℕ) → Reads r k → (at : Span) (o : Bool) (bs : Bounds) (ts rest : List Tok) → room_bounds bs ≤ k → (has_bounds bs ≡ true → o ≡ false) → BoundsForm bs → BoundsBehind o bs ts rest → Halt rest → Shut rest → TailGot r at o bs ts rest
-tail_got r k w at o end_bounds ts rest m n f (inl e) c d =
-    subst (λ z. TailGot r at o end_bounds z rest) (sym e) ([], c, (λ q. d), (λ u. choose_none (sign_front 43 rest) _ _ (absent 43 rest d.plus)), (λ q. refl), tt)
-tail_got r k w at o end_bounds ts rest m n f (inr h) c d = plus_got r k w at o end_bounds ts rest rest m h.1 f h.0 refl c d
-tail_got r k w at o (more_bounds b bs) ts rest m n f h c d = plus_got r k w at o (more_bounds b bs) ts h.0 rest m (n refl) f h.2 (h.1, h.3, h.4) c d
+tail_got : (r : Readers) (k : ℕ) → Reads r k → (at : Span) (o c d : Bool) (bs : Bounds) (ts rest : List Tok) → room_bounds bs ≤ k → (has_bounds bs ≡ true → o ≡ false) → BoundsForm bs → BoundsBehind o bs ts rest → Pauses (takes_bounds false c bs) (takes_bounds true d bs) rest → sign_next 43 rest ≡ false → TailGot r at o c d bs ts rest
+tail_got r k w at o c d end_bounds ts rest m n f (inl e) x y =
+    subst (λ z. TailGot r at o c d end_bounds z rest) (sym e) ([], x, (λ q. y), (λ u. choose_none (sign_front 43 rest) _ _ (absent 43 rest y)), (λ q. refl), tt, λ z was. refl)
+tail_got r k w at o c d end_bounds ts rest m n f (inr h) x y = plus_got r k w at o c d end_bounds ts rest rest m h.1 f h.0 refl (pauses_bare rest x.args) (y, λ q. h.2)
+tail_got r k w at o c d (more_bounds b bs) ts rest m n f h x y = plus_got r k w at o c d (more_bounds b bs) ts h.0 rest m (n refl) f h.2 (h.1, h.3, h.4) x (y, λ q. absurd (cc))
 
-bounds_got : (r : Readers) (k : ℕ) → Reads r k → (at : Span) (bs : Bounds) (ts rest : List Tok) → room_bounds bs ≤ suc k → BoundsForm bs → BoundsThen bs ts rest → Halt rest → Shut rest → BoundsGot (bounds_body r at ts) bs rest
+bounds_got : (r : Readers) (k : ℕ) → Reads r k → (at : Span) (bs : Bounds) (ts rest : List Tok) → room_bounds bs ≤ suc k → BoundsForm bs → BoundsThen bs ts rest → Pauses (takes_bounds false false bs) (takes_bounds true false bs) rest → Over bs rest → BoundsGot (bounds_body r at ts) bs rest
 unfolding bounds_body
 bounds_got r k w at end_bounds ts rest m f h c d =
     subst (λ z. BoundsGot (bounds_body r at z) end_bounds rest) (sym h)
-    ([], cond_false_at (bound_next rest) _ _ d.bound ∙ cond_false_at (sign_next 43 rest) _ _ d.plus, (λ q. refl), tt)
+    ([], cond_false_at (bound_next rest) _ _ (d.1 refl) ∙ cond_false_at (sign_next 43 rest) _ _ d.0, (λ q. refl), tt, λ z was. refl)
 bounds_got r k w at (more_bounds b bs) ts rest m f h c d =
-    let t = tail_got r k w at (ends_bound b) bs h.0 rest (omega (arith, m)) f.1 f.2 h.2 c d in
+    let t = tail_got r k w at (ends_bound b) (takes_bound false b) (takes_bound true b) bs h.0 rest (omega (arith, m)) f.1 f.2 h.2 c d.0 in
     let g = bound_got r k w at b ts h.0 (omega (arith, m)) f.0 h.1 t.1 t.2 in
-    (g.0 ∷ t.0, cond_true_at (bound_next ts) _ _ (bound_begins b ts h.0 f.0 h.1) ∙ bind_at (bound_body r at ts) _ _ g.1 ∙ t.3 g.0, (λ q. ap (λ z. more_bounds z (bounds_of t.0)) (g.2 q.0) ∙ ap (more_bounds b) (t.4 q.1)), (g.3, t.5))
+    (g.0 ∷ t.0, cond_true_at (bound_next ts) _ _ (bound_begins b ts h.0 f.0 h.1) ∙ bind_at (bound_body r at ts) _ _ g.1 ∙ t.3 g.0, (λ q. ap (λ z. more_bounds z (bounds_of t.0)) (g.2 q.0) ∙ ap (more_bounds b) (t.4 q.1)), (g.3, t.5), λ z was. t.6 z (takes_bound z g.0) ∙ ap (λ v. takes_bounds z v bs) (g.4 z))
 
 -- lists of types
 
@@ -281,17 +278,17 @@ ty_head (ty_verbatim m) ts rest f h = absurd f
 last_got : (r : Readers) (k : ℕ) → Reads r k → (at : Span) (t : TyD) (c : Bool) (u : Tok) (us a : List Tok) → room_ty t ≤ k → TyForm t → TyThen t (u ∷ us) a → LastComma c a → TysGot (tys_body r at (u ∷ us)) (more_tys t end_tys) c
 unfolding tys_body
 last_got r k w at t false u us a m f h l =
-    let g = w.ty at t (u ∷ us) [] m f (subst (λ z. TyThen t (u ∷ us) z) l h) halt_end (λ q. shut_end) in
+    let g = w.ty at t (u ∷ us) [] m f (subst (λ z. TyThen t (u ∷ us) z) l h) (halt_pauses (takes_ty false t) (takes_ty true t) [] halt_end) (λ q. shut_end.plus) in
     (g.0 ∷ [], bind_at (r.ty at (u ∷ us)) _ _ g.1, refl, (λ q. ap (λ z. more_tys z end_tys) (g.2 q.0)), (g.3, tt))
 last_got r k w at t true u us a m f h l =
-    let g = w.ty at t (u ∷ us) (mark 44 l.0 l.1 ∷ []) m f (subst (λ z. TyThen t (u ∷ us) z) l.2 h) (halt_comma l.0 l.1 []) (λ q. shut_comma l.0 l.1 []) in
+    let g = w.ty at t (u ∷ us) (mark 44 l.0 l.1 ∷ []) m f (subst (λ z. TyThen t (u ∷ us) z) l.2 h) (halt_pauses (takes_ty false t) (takes_ty true t) (mark 44 l.0 l.1 ∷ []) (halt_comma l.0 l.1 [])) (λ q. (shut_comma l.0 l.1 []).plus) in
     (g.0 ∷ [], bind_at (r.ty at (u ∷ us)) _ _ g.1, refl, (λ q. ap (λ z. more_tys z end_tys) (g.2 q.0)), (g.3, tt))
 
 more_got : (r : Readers) (k : ℕ) → Reads r k → (at : Span) (t : TyD) (is : Tys) (c : Bool) (u : Tok) (us : List Tok) (v : Tok) (vs : List Tok) (a b : List Tok) → room_ty t + room_tys is ≤ k → TyForm t → TysForm is → TyThen t (u ∷ us) a → SignThen 44 a b → b ≡ v ∷ vs → TysThen c is b → TysGot (tys_body r at (u ∷ us)) (more_tys t is) c
 unfolding tys_body
 more_got r k w at t is c u us v vs a b m f i h l e n =
     let q : a ≡ mark 44 l.0 l.1 ∷ v ∷ vs = l.2 ∙ ap (λ z. mark 44 l.0 l.1 ∷ z) e in
-    let g = w.ty at t (u ∷ us) (mark 44 l.0 l.1 ∷ v ∷ vs) (omega (arith, m)) f (subst (λ z. TyThen t (u ∷ us) z) q h) (halt_comma l.0 l.1 (v ∷ vs)) (λ q. shut_comma l.0 l.1 (v ∷ vs)) in
+    let g = w.ty at t (u ∷ us) (mark 44 l.0 l.1 ∷ v ∷ vs) (omega (arith, m)) f (subst (λ z. TyThen t (u ∷ us) z) q h) (halt_pauses (takes_ty false t) (takes_ty true t) (mark 44 l.0 l.1 ∷ v ∷ vs) (halt_comma l.0 l.1 (v ∷ vs))) (λ q. (shut_comma l.0 l.1 (v ∷ vs)).plus) in
     let d = w.tys at is c (v ∷ vs) (omega (arith, m)) i (subst (λ z. TysThen c is z) e n) in
     (g.0 ∷ d.0, bind_at (r.ty at (u ∷ us)) _ _ g.1 ∙ bind_at (r.tys at (v ∷ vs)) _ _ d.1, ap suc d.2, (λ q. ap (λ z. more_tys z (tys_of d.0)) (g.2 q.0) ∙ ap (more_tys t) (d.3 q.1)), (g.3, d.4))
 
@@ -347,14 +344,14 @@ unfolding generic_body
 generic_got r k w at (arg_lifetime l) ts rest m f h b = subst (λ z. GenericGot (generic_body r at z) (arg_lifetime l) rest × (sign_front 62 z ≡ None)) (sym h) ((arg_lifetime l, refl, (λ q. refl), tt), refl)
 generic_got r k w at (arg_ty t) ts rest m f h b =
     let p = plain_ty t ts rest f h b.unlabelled in
-    let g = w.ty at t ts rest m f h b.halt (λ q. b.shut) in
+    let g = w.ty at t ts rest m f h (halt_pauses (takes_ty false t) (takes_ty true t) rest b.halt) (λ q. b.shut.plus) in
     ((arg_ty g.0, choose_none (lifetime_front ts) _ _ p.lifetime ∙ choose_none (constant_front ts) _ _ p.constant ∙ choose_none (labelled (sign_front 61) (name_front ts)) _ _ p.equals ∙ choose_none (labelled colon_front (name_front ts)) _ _ p.colon ∙ bind_at (r.ty at ts) _ _ g.1, (λ q. ap arg_ty (g.2 q)), g.3), p.close)
 generic_got r k w at (arg_const e) ts rest m f h b =
     let c = constant_at e ts rest f h in
     ((arg_const e, choose_none (lifetime_front ts) _ _ c.1 ∙ choose_at (constant_front ts) _ _ (e, rest) c.0, (λ q. refl), tt), c.2)
 generic_got r k w at (arg_assoc_ty x t) ts rest m f h b =
     let p = plain_ty t h.1 rest f h.4 b.unlabelled in
-    let g = w.ty at t h.1 rest m f h.4 b.halt (λ q. b.shut) in
+    let g = w.ty at t h.1 rest m f h.4 (halt_pauses (takes_ty false t) (takes_ty true t) rest b.halt) (λ q. b.shut.plus) in
     let e : ts ≡ word x.text x.span ∷ mark 61 h.3.0 h.3.1 ∷ h.1 = h.2 ∙ ap (λ z. word x.text x.span ∷ z) h.3.2 in
     subst (λ z. GenericGot (generic_body r at z) (arg_assoc_ty x t) rest × (sign_front 62 z ≡ None)) (sym e)
     ((arg_assoc_ty x g.0, choose_none (constant_front h.1) _ _ p.constant ∙ bind_at (r.ty at h.1) _ _ g.1, (λ q. ap (arg_assoc_ty x) (g.2 q)), g.3), refl)
@@ -364,7 +361,7 @@ generic_got r k w at (arg_assoc_const x v) ts rest m f h b =
     subst (λ z. GenericGot (generic_body r at z) (arg_assoc_const x v) rest × (sign_front 62 z ≡ None)) (sym e)
     ((arg_assoc_const x v, choose_at (constant_front h.1) _ _ (v, rest) c.0, (λ q. refl), tt), refl)
 generic_got r k w at (arg_constraint x bs) ts rest m f h b =
-    let g = w.bounds at bs h.1 rest m f h.4 b.halt b.shut in
+    let g = w.bounds at bs h.1 rest m f h.4 (halt_pauses (takes_bounds false false bs) (takes_bounds true false bs) rest b.halt) (shut_over bs rest b.shut) in
     let c = colon_bounds bs h.3.0 h.3.1 h.1 rest f h.4 b.single in
     let e : ts ≡ word x.text x.span ∷ mark 58 h.3.0 h.3.1 ∷ h.1 = h.2 ∙ ap (λ z. word x.text x.span ∷ z) h.3.2 in
     subst (λ z. GenericGot (generic_body r at z) (arg_constraint x bs) rest × (sign_front 62 z ≡ None)) (sym e)
@@ -456,7 +453,12 @@ unfolding behind_of
 last_behind zero was was' end_segments h = absurd (omega (arith, h))
 last_behind zero was was' (more_segments s ss) h = refl
 last_behind (suc n) was was' end_segments h = absurd (omega (arith, h))
-last_behind (suc n) was was' (more_segments s ss) h = last_behind n was (gives_segment s) ss (omega (arith, h))
+last_behind (suc n) was was' (more_segments s ss) h = last_behind n was (takes_segment true s) ss (omega (arith, h))
+
+last_append : (was was' : Bool) (xs ys : List SegmentD) → 0 < length ys → gives_last was (segments_of (xs ++ ys)) ≡ gives_last was' (segments_of ys)
+last_append was was' [] [] h = absurd (omega (arith, h))
+last_append was was' [] (y ∷ ys) h = refl
+last_append was was' (x ∷ xs) ys h = last_append (takes_segment true x) was' xs ys h
 
 ends_behind : (n : ℕ) (was was' : Bool) (ss : Segments) → n < segments_count ss → ends_segments was (behind_of n ss) ≡ ends_segments was' ss
 unfolding behind_of
@@ -516,16 +518,16 @@ trait_got r k w at false (more_segments (segment x a) ss) ts rest m c f h b =
     (g.0, choose_none (colons_front ts) _ _ e ∙ bind_at (r.segments at ts) _ _ g.1, g.2, g.4, g.5)
 
 abbrev QualifiedGot : Read ExprPathD → TyD → ℕ → Bool → Segments → List Tok → Type 0
-QualifiedGot v t n l ss rest = (u : TyD) × (us : Segments) × (v ≡ Ok (expr_path (some_qself (qself u n)) (path l us), rest)) × (TyLengths t → u ≡ t) × (SegmentsLengths ss → us ≡ ss) × TyLengths u × SegmentsLengths us
+QualifiedGot v t n l ss rest = (u : TyD) × (us : Segments) × (v ≡ Ok (expr_path (some_qself (qself u n)) (path l us), rest)) × (TyLengths t → u ≡ t) × (SegmentsLengths ss → us ≡ ss) × TyLengths u × SegmentsLengths us × (gives_last false us ≡ gives_last false ss)
 
 bare_got : (r : Readers) (k : ℕ) → Reads r k → (at : Span) (t : TyD) (ss : Segments) (ts b c rest : List Tok) → room_ty t + room_segments ss ≤ k → TyForm t → 0 < segments_count ss → SegmentsForm 0 ss → TyThen t ts b → SignThen 62 b c → SegmentsThen 0 true ss c rest → Beyond (gives_last false ss) (ends_segments false ss) rest → QualifiedGot (qualified_body r at ts) t 0 true ss rest
 unfolding qualified_body
 bare_got r k w at t ss ts b c rest m f n s h o q y =
     let e = edge_close b c o in
-    let g = w.ty at t ts b (omega (arith, m)) f h e.halt (λ z. e.shut) in
+    let g = w.ty at t ts b (omega (arith, m)) f h (halt_pauses (takes_ty false t) (takes_ty true t) b e.halt) (λ z. e.shut.plus) in
     let d = behind_got r k w at ss b c rest (omega (arith, m)) n s o q y in
     let a : keyword_front (codes "as") b ≡ None = ap (keyword_front (codes "as")) o.2 in
-    (g.0, segments_of d.0, bind_at (r.ty at ts) _ _ g.1 ∙ choose_none (keyword_front (codes "as") b) _ _ a ∙ bind_at (behind_body r at b) _ _ d.1, g.2, d.4, g.3, d.5)
+    (g.0, segments_of d.0, bind_at (r.ty at ts) _ _ g.1 ∙ choose_none (keyword_front (codes "as") b) _ _ a ∙ bind_at (behind_body r at b) _ _ d.1, g.2, d.4, g.3, d.5, d.3 false)
 
 as_got : (r : Readers) (k : ℕ) → Reads r k → (at : Span) (t : TyD) (n : ℕ) (l : Bool) (ss : Segments) (ts b c rest : List Tok) → room_ty t + room_segments ss ≤ k → TyForm t → suc n < segments_count ss → SegmentsForm (suc n) ss → TyThen t ts b → WordThen (codes "as") b c → SegmentsThen (suc n) l ss c rest → Beyond (gives_last false ss) (ends_segments false ss) rest → QualifiedGot (qualified_body r at ts) t (suc n) l ss rest
 unfolding qualified_body
@@ -537,10 +539,10 @@ as_got r k w at t n l ss ts b c rest m f i s h o q y =
     let bc = count_behind (suc n) ss i in
     let hb : Halt b = subst Halt (sym o.1) (halt_as o.0 c) in
     let sb : Shut b = subst Shut (sym o.1) (shut_as o.0 c) in
-    let g = w.ty at t ts b (omega (arith, m)) f h hb (λ z. sb) in
+    let g = w.ty at t ts b (omega (arith, m)) f h (halt_pauses (takes_ty false t) (takes_ty true t) b hb) (λ z. sb.plus) in
     let e = edge_close v.0 v.1 v.3 in
-    let tr = trait_got r k w at l (front_of (suc n) ss) c v.0 (omega (arith, m, x)) (omega (arith, fc)) p.0 v.2 (e.halt.stops, (λ z. e.halt), (λ z. e.shut)) in
-    let lb = subst (λ z. z ≡ true → Halt rest) (sym (last_behind (suc n) false false ss i)) y.1 in
+    let tr = trait_got r k w at l (front_of (suc n) ss) c v.0 (omega (arith, m, x)) (omega (arith, fc)) p.0 v.2 (e.halt.stops, (λ z. e.halt.bang), (λ z. e.shut.plus)) in
+    let lb = subst (λ z. z ≡ true → NoBang rest) (sym (last_behind (suc n) false false ss i)) y.1 in
     let eb = subst (λ z. Ends z rest) (sym (ends_behind (suc n) false false ss i)) y.2 in
     let d = behind_got r k w at (behind_of (suc n) ss) v.0 v.1 rest (omega (arith, m, x)) bc p.1 v.3 v.4 (y.0, lb, eb) in
     let a : keyword_front (codes "as") b ≡ Some c = ap (keyword_front (codes "as")) o.1 in
@@ -552,6 +554,7 @@ as_got r k w at t n l ss ts b c rest m f i s h o q y =
       (λ j. let k2 = lengths_split (suc n) ss j in of_append tr.0 d.0 ∙ ap (λ z. append z (segments_of d.0)) (tr.3 k2.0) ∙ ap (append (front_of (suc n) ss)) (d.4 k2.1) ∙ append_split (suc n) ss),
       g.3,
       lengths_append tr.0 d.0 tr.4 d.5,
+      last_append false false tr.0 d.0 (subst (λ j. 0 < j) (sym d.2) bc) ∙ d.3 false ∙ last_behind (suc n) false false ss i,
     )
 
 qualified_got : (r : Readers) (k : ℕ) → Reads r k → (at : Span) (t : TyD) (n : ℕ) (l : Bool) (ss : Segments) (ts b c rest : List Tok) → room_ty t + room_segments ss ≤ k → QSelfForm (qself t n) (path l ss) → SegmentsForm n ss → TyThen t ts b → cond (nat_eq n 0) (SignThen 62 b c) (WordThen (codes "as") b c) → SegmentsThen n l ss c rest → Beyond (gives_last false ss) (ends_segments false ss) rest → QualifiedGot (qualified_body r at ts) t n l ss rest
@@ -569,10 +572,10 @@ expr_path_got : (r : Readers) (k : ℕ) → Reads r k → (at : Span) (p : ExprP
 unfolding expr_path_body
 expr_path_got r k w at (expr_path no_qself (path l ss)) ts m f h =
     let q = subst (λ z. SegmentsThen 0 l ss z []) (sym h.1) h.2 in
-    let g = path_got r k w at l ss ts [] (omega (arith, m)) f.1.0 f.1.1 q (halt_end.stops, (λ z. halt_end), λ z. shut_end) in
+    let g = path_got r k w at l ss ts [] (omega (arith, m)) f.1.0 f.1.1 q (halt_end.stops, (λ z. halt_end.bang), λ z. shut_end.plus) in
     (expr_path no_qself g.0, choose_none (sign_front 60 ts) _ _ (start_no_sign 60 ts refl (path_start 0 l ss ts [] f.1.0 f.1.1 q)) ∙ bind_at (path_body r at ts) _ _ g.1, (λ z. ap (expr_path no_qself) (g.3 z.1)), (tt, g.4))
 expr_path_got r k w at (expr_path (some_qself (qself t n)) (path l ss)) ts m f h =
-    let g = qualified_got r k w at t n l ss h.1.0 h.1.1 h.0 [] (omega (arith, m)) f.0 f.1.1 h.1.3 h.1.4 h.2 (halt_end.stops, (λ z. halt_end), λ z. shut_end) in
+    let g = qualified_got r k w at t n l ss h.1.0 h.1.1 h.0 [] (omega (arith, m)) f.0 f.1.1 h.1.3 h.1.4 h.2 (halt_end.stops, (λ z. halt_end.bang), λ z. shut_end.plus) in
     subst (λ z. ExprPathGot (expr_path_body r at z) (expr_path (some_qself (qself t n)) (path l ss)) []) (sym h.1.2.2)
     (expr_path (some_qself (qself g.0 n)) (path l g.1), g.2, (λ z. ap (λ v. expr_path (some_qself (qself v n)) (path l g.1)) (g.3 z.0) ∙ ap (λ v. expr_path (some_qself (qself t n)) (path l v)) (g.4 z.1)), (g.5, g.6))
 
@@ -688,40 +691,40 @@ lifetime_got (Some l) ts rest h n = ap maybe_lifetime_front h
 abbrev reference_tail : Readers → Span → Option LifetimeD → Bool × List Tok → Read TyD
 reference_tail r at l m = r.ty at m.1 >>= λ t. Ok (ty_reference l m.0 t.0, t.1)
 
-reference_got : (r : Readers) (k : ℕ) → Reads r k → (at : Span) (l : Option LifetimeD) (m : Bool) (t : TyD) (a b c rest : List Tok) → room_ty t ≤ k → TyForm t → MaybeLifetimeThen l a b → MutThen m b c → TyThen t c rest → Halt rest → Ends (ends_ty t) rest → TyGot (reference_body r at a) (ty_reference l m t) rest
+reference_got : (r : Readers) (k : ℕ) → Reads r k → (at : Span) (l : Option LifetimeD) (m : Bool) (t : TyD) (a b c rest : List Tok) → room_ty t ≤ k → TyForm t → MaybeLifetimeThen l a b → MutThen m b c → TyThen t c rest → Pauses (takes_ty false t) (takes_ty true t) rest → Ends (ends_ty t) rest → TyGot (reference_body r at a) (ty_reference l m t) rest
 unfolding reference_body
 reference_got r k w at l m t a b c rest n f h i j y z =
     let o = ty_opens t c rest f j in
     let v = mut_got m b c i o.1 o.0 in
     let u = lifetime_got l a b h v.1 in
     let g = w.ty at t c rest n f j y z in
-    (ty_reference l m g.0, ap (λ (q : Option LifetimeD × List Tok). reference_tail r at q.0 (mut_front q.1)) u ∙ ap (reference_tail r at l) v.0 ∙ bind_at (r.ty at c) _ _ g.1, (λ q. ap (ty_reference l m) (g.2 q)), g.3)
+    (ty_reference l m g.0, ap (λ (q : Option LifetimeD × List Tok). reference_tail r at q.0 (mut_front q.1)) u ∙ ap (reference_tail r at l) v.0 ∙ bind_at (r.ty at c) _ _ g.1, (λ q. ap (ty_reference l m) (g.2 q)), g.3, g.4)
 
-pointer_got : (r : Readers) (k : ℕ) → Reads r k → (at : Span) (m : Bool) (t : TyD) (a b rest : List Tok) → room_ty t ≤ k → TyForm t → WordThen (cond m (codes "mut") (codes "const")) a b → TyThen t b rest → Halt rest → Ends (ends_ty t) rest → TyGot (pointer_body r at a) (ty_pointer m t) rest
+pointer_got : (r : Readers) (k : ℕ) → Reads r k → (at : Span) (m : Bool) (t : TyD) (a b rest : List Tok) → room_ty t ≤ k → TyForm t → WordThen (cond m (codes "mut") (codes "const")) a b → TyThen t b rest → Pauses (takes_ty false t) (takes_ty true t) rest → Ends (ends_ty t) rest → TyGot (pointer_body r at a) (ty_pointer m t) rest
 unfolding pointer_body
 pointer_got r k w at true t a b rest n f h j y z =
     let g = w.ty at t b rest n f j y z in
-    subst (λ v. TyGot (pointer_body r at v) (ty_pointer true t) rest) (sym h.1) (ty_pointer true g.0, bind_at (r.ty at b) _ _ g.1, (λ q. ap (ty_pointer true) (g.2 q)), g.3)
+    subst (λ v. TyGot (pointer_body r at v) (ty_pointer true t) rest) (sym h.1) (ty_pointer true g.0, bind_at (r.ty at b) _ _ g.1, (λ q. ap (ty_pointer true) (g.2 q)), g.3, g.4)
 pointer_got r k w at false t a b rest n f h j y z =
     let g = w.ty at t b rest n f j y z in
-    subst (λ v. TyGot (pointer_body r at v) (ty_pointer false t) rest) (sym h.1) (ty_pointer false g.0, bind_at (r.ty at b) _ _ g.1, (λ q. ap (ty_pointer false) (g.2 q)), g.3)
+    subst (λ v. TyGot (pointer_body r at v) (ty_pointer false t) rest) (sym h.1) (ty_pointer false g.0, bind_at (r.ty at b) _ _ g.1, (λ q. ap (ty_pointer false) (g.2 q)), g.3, g.4)
 
 abbrev InsideGot : Result TyD SyntaxError → TyD → Type 0
-InsideGot v t = (u : TyD) × (v ≡ Ok u) × (TyLengths t → u ≡ t) × TyLengths u
+InsideGot v t = (u : TyD) × (v ≡ Ok u) × (TyLengths t → u ≡ t) × TyLengths u × ((c : Bool) → takes_ty c u ≡ false)
 
 array_got : (r : Readers) (k : ℕ) → Reads r k → Printed r → (at : Span) (t : TyD) (e : ExprD) (ts a b : List Tok) → room_ty t + room_expr e ≤ k → TyForm t → LengthForm e → TyThen t ts a → SignThen 59 a b → ExprThen e b [] → InsideGot (bracketed_body r at ts) (ty_array t e)
 unfolding bracketed_body
 array_got r k w s at t e ts a b m f l h o x =
-    let g = w.ty at t ts a (omega (arith, m)) f h (subst Halt (sym o.2) (halt_semicolon o.0 o.1 b)) (λ q. subst Shut (sym o.2) (shut_semicolon o.0 o.1 b)) in
+    let g = w.ty at t ts a (omega (arith, m)) f h (halt_pauses (takes_ty false t) (takes_ty true t) a (subst Halt (sym o.2) (halt_semicolon o.0 o.1 b))) (λ q. ap (sign_next 43) o.2) in
     let d = length_got r k w s at e b (omega (arith, m)) l x in
     let c : sign_front 59 a ≡ Some b = ap (sign_front 59) o.2 in
-    (ty_array g.0 d.0, bind_at (r.ty at ts) _ _ g.1 ∙ choose_at (sign_front 59 a) _ _ b c ∙ bind_at (length_body r at b) _ _ d.1, (λ q. ap (λ z. ty_array z d.0) (g.2 q.0) ∙ ap (ty_array t) (d.2 q.1)), (g.3, d.3))
+    (ty_array g.0 d.0, bind_at (r.ty at ts) _ _ g.1 ∙ choose_at (sign_front 59 a) _ _ b c ∙ bind_at (length_body r at b) _ _ d.1, (λ q. ap (λ z. ty_array z d.0) (g.2 q.0) ∙ ap (ty_array t) (d.2 q.1)), (g.3, d.3), λ c. refl)
 
 slice_got : (r : Readers) (k : ℕ) → Reads r k → (at : Span) (t : TyD) (ts : List Tok) → room_ty t ≤ k → TyForm t → TyThen t ts [] → InsideGot (bracketed_body r at ts) (ty_slice t)
 unfolding bracketed_body
 slice_got r k w at t ts m f h =
-    let g = w.ty at t ts [] m f h halt_end (λ q. shut_end) in
-    (ty_slice g.0, bind_at (r.ty at ts) _ _ g.1, (λ q. ap ty_slice (g.2 q)), g.3)
+    let g = w.ty at t ts [] m f h (halt_pauses (takes_ty false t) (takes_ty true t) [] halt_end) (λ q. shut_end.plus) in
+    (ty_slice g.0, bind_at (r.ty at ts) _ _ g.1, (λ q. ap ty_slice (g.2 q)), g.3, λ c. refl)
 
 one_of : (us : List TyD) (t : TyD) → length us ≡ 1 → (u : TyD) × (us ≡ u ∷ [])
 one_of [] t e = absurd (omega (arith, e))
@@ -739,89 +742,81 @@ tuple_of (u ∷ []) true is e h = refl
 tuple_of (u ∷ []) false is e h = let z : false ≡ true = h (one_count is (sym e)) in absurd (cc)
 tuple_of (u ∷ v ∷ vs) c is e h = refl
 
-path_no_return : (was was' : Bool) (ss : Segments) → (was ≡ false → was' ≡ false) → gives_last was ss ≡ false → ends_segments was' ss ≡ false
-path_no_return was was' end_segments i h = i h
-path_no_return was was' (more_segments s ss) i h = path_no_return (gives_segment s) (ends_segment s) ss (no_return s) h
-
-ends_of_path : (p : PathD) → gives_path p ≡ false → ends_path p ≡ false
-ends_of_path (path l ss) h = path_no_return false false ss (λ z. z) h
-
 macro_got : (r : Readers) (k : ℕ) → Reads r k → (at : Span) (p : PathD) (m ts a b rest : List Tok) → room_path p ≤ k → PathForm p → gives_path p ≡ false → IsGroup m → PathThen p ts a → SignThen 33 a b → b ≡ m ++ rest → TyGot (path_ty r at ts) (ty_macro p m) rest
 unfolding path_ty
 macro_got r k w at p m ts a b rest n f v i h o e =
     let st : Stops a = subst Stops (sym o.2) (stops_bang o.0 o.1 b) in
-    let en : Ends (ends_path p) a = subst (λ z. Ends z a) (sym (ends_of_path p v)) (vacuous a) in
-    let g = path_read_back r k w at p ts a n f h (st, (λ z. absurd (cc)), en) in
+    let g = path_read_back r k w at p ts a n f h (st, (λ z. absurd (cc)), λ z. ap (sign_next 43) o.2) in
     let be : b ≡ group i.0 i.1 i.2 ∷ rest = e ∙ ap (λ z. z ++ rest) i.3 in
     let ae : a ≡ mark 33 o.0 o.1 ∷ group i.0 i.1 i.2 ∷ rest = o.2 ∙ ap (λ z. mark 33 o.0 o.1 ∷ z) be in
     let tf : choose (sign_front 33 a) tree_front None ≡ Some (group i.0 i.1 i.2, rest) = ap (λ z. choose (sign_front 33 z) tree_front None) ae ∙ ap (λ z. cond z (Some (group i.0 i.1 i.2, rest)) None) i.4 in
     let cf : cond (gives_path g.0) None (choose (sign_front 33 a) tree_front None) ≡ Some (group i.0 i.1 i.2, rest) = ap (λ z. cond z None (choose (sign_front 33 a) tree_front None)) (g.2 ∙ v) ∙ tf in
-    (ty_macro g.0 (group i.0 i.1 i.2 ∷ []), bind_at (path_body r at ts) _ _ g.1 ∙ choose_at (cond (gives_path g.0) None (choose (sign_front 33 a) tree_front None)) _ _ (group i.0 i.1 i.2, rest) cf, (λ q. ap (λ z. ty_macro z (group i.0 i.1 i.2 ∷ [])) (g.3 q) ∙ ap (ty_macro p) (sym i.3)), g.4)
+    (ty_macro g.0 (group i.0 i.1 i.2 ∷ []), bind_at (path_body r at ts) _ _ g.1 ∙ choose_at (cond (gives_path g.0) None (choose (sign_front 33 a) tree_front None)) _ _ (group i.0 i.1 i.2, rest) cf, (λ q. ap (λ z. ty_macro z (group i.0 i.1 i.2 ∷ [])) (g.3 q) ∙ ap (ty_macro p) (sym i.3)), g.4, λ z. refl)
 
-plain_got : (r : Readers) (k : ℕ) → Reads r k → (at : Span) (l : Bool) (ss : Segments) (ts rest : List Tok) → room_segments ss ≤ k → 0 < segments_count ss → SegmentsForm 0 ss → SegmentsThen 0 l ss ts rest → Halt rest → Ends (ends_segments false ss) rest → TyGot (path_ty r at ts) (ty_path no_qself (path l ss)) rest
+plain_got : (r : Readers) (k : ℕ) → Reads r k → (at : Span) (l : Bool) (ss : Segments) (ts rest : List Tok) → room_segments ss ≤ k → 0 < segments_count ss → SegmentsForm 0 ss → SegmentsThen 0 l ss ts rest → Pauses true true rest → Ends (ends_segments false ss) rest → TyGot (path_ty r at ts) (ty_path no_qself (path l ss)) rest
 unfolding path_ty
 plain_got r k w at l ss ts rest m c f h y z =
-    let g = path_got r k w at l ss ts rest m c f h (y.stops, (λ q. y), z) in
-    (ty_path no_qself g.0, bind_at (path_body r at ts) _ _ g.1 ∙ choose_none (cond (gives_path g.0) None (choose (sign_front 33 rest) tree_front None)) _ _ (cond_none (gives_path g.0) _ y.bang), (λ q. ap (ty_path no_qself) (g.3 q.1)), (tt, g.4))
+    let g = path_got r k w at l ss ts rest m c f h (pauses_stop true rest y, (λ q. y.bang refl), z) in
+    (ty_path no_qself g.0, bind_at (path_body r at ts) _ _ g.1 ∙ choose_none (cond (gives_path g.0) None (choose (sign_front 33 rest) tree_front None)) _ _ (cond_none (gives_path g.0) _ (y.bang refl)), (λ q. ap (ty_path no_qself) (g.3 q.1)), (tt, g.4), λ z. refl)
 
-some_bounds_got : (r : Readers) (k : ℕ) → Reads r k → (at : Span) (bs : Bounds) (ts rest : List Tok) → room_bounds bs ≤ k → has_bounds bs ≡ true → BoundsForm bs → BoundsThen bs ts rest → Halt rest → Shut rest → BoundsGot (some_bounds r at ts) bs rest
+some_bounds_got : (r : Readers) (k : ℕ) → Reads r k → (at : Span) (bs : Bounds) (ts rest : List Tok) → room_bounds bs ≤ k → has_bounds bs ≡ true → BoundsForm bs → BoundsThen bs ts rest → Pauses (takes_bounds false false bs) (takes_bounds true false bs) rest → sign_next 43 rest ≡ false → BoundsGot (some_bounds r at ts) bs rest
 unfolding some_bounds
 some_bounds_got r k w at end_bounds ts rest m n f h c d = absurd (cc)
 some_bounds_got r k w at (more_bounds b bs) ts rest m n f h c d =
-    let g = w.bounds at (more_bounds b bs) ts rest m f h c d in
-    (g.0, cond_true_at (bound_next ts) _ _ (bound_begins b ts h.0 f.0 h.1) ∙ g.1, g.2, g.3)
+    let g = w.bounds at (more_bounds b bs) ts rest m f h c (d, λ q. absurd (cc)) in
+    (g.0, cond_true_at (bound_next ts) _ _ (bound_begins b ts h.0 f.0 h.1) ∙ g.1, g.2, g.3, g.4)
 
-function_got : (r : Readers) (k : ℕ) → Reads r k → (at : Span) (is : Tys) (o : MaybeTy) (us : Toks) (c : Bool) (a b rest : List Tok) → room_tys is + room_output o ≤ k → TysForm is → OutputForm o → GroupThen Parenthesis us a b → TysThen c is (list_of us) → OutputThen o b rest → Halt rest → Ends (ends_output o) rest → TyGot (function_body r at a) (ty_fn is o) rest
+function_got : (r : Readers) (k : ℕ) → Reads r k → (at : Span) (is : Tys) (o : MaybeTy) (us : Toks) (c : Bool) (a b rest : List Tok) → room_tys is + room_output o ≤ k → TysForm is → OutputForm o → GroupThen Parenthesis us a b → TysThen c is (list_of us) → OutputThen o b rest → Pauses (takes_output false o) (takes_output true o) rest → Ends (ends_output o) rest → TyGot (function_body r at a) (ty_fn is o) rest
 unfolding function_body
 function_got r k w at is o us c a b rest m f i p h n y z =
-    let g = signature_got r k w at p.0 us is c o b rest m f i h n y.stops.args (λ q. y) z in
+    let g = signature_got r k w at p.0 us is c o b rest m f i h n y z in
     subst (λ v. TyGot (function_body r at v) (ty_fn is o) rest) (sym p.1)
-    (ty_fn (tys_of g.0) g.1, bind_at (signature_body r (list_of us, p.0, b) at) _ _ g.2, (λ q. ap (λ v. ty_fn v g.1) (g.4 q.0) ∙ ap (ty_fn is) (g.5 q.1)), (g.6, g.7))
+    (ty_fn (tys_of g.0) g.1, bind_at (signature_body r (list_of us, p.0, b) at) _ _ g.2, (λ q. ap (λ v. ty_fn v g.1) (g.4 q.0) ∙ ap (ty_fn is) (g.5 q.1)), (g.6, g.7), g.3)
 
-ty_got : (r : Readers) (k : ℕ) → Reads r k → Printed r → (at : Span) (t : TyD) (ts rest : List Tok) → room_ty t ≤ suc k → TyForm t → TyThen t ts rest → Halt rest → Ends (ends_ty t) rest → TyGot (ty_body r at ts) t rest
+ty_got : (r : Readers) (k : ℕ) → Reads r k → Printed r → (at : Span) (t : TyD) (ts rest : List Tok) → room_ty t ≤ suc k → TyForm t → TyThen t ts rest → Pauses (takes_ty false t) (takes_ty true t) rest → Ends (ends_ty t) rest → TyGot (ty_body r at ts) t rest
 unfolding ty_body
 ty_got r k w s at (ty_array t e) ts rest m f h y z =
     let g = array_got r k w s h.3.0 t e (list_of h.0) h.1 h.2 (omega (arith, m)) f.0 f.1 h.4 h.5 h.6 in
-    subst (λ v. TyGot (ty_body r at v) (ty_array t e) rest) (sym h.3.1) (g.0, bind_at (bracketed_body r h.3.0 (list_of h.0)) _ _ g.1, g.2, g.3)
+    subst (λ v. TyGot (ty_body r at v) (ty_array t e) rest) (sym h.3.1) (g.0, bind_at (bracketed_body r h.3.0 (list_of h.0)) _ _ g.1, g.2, g.3, g.4)
 ty_got r k w s at (ty_fn is o) ts rest m f h y z =
     subst (λ v. TyGot (ty_body r at v) (ty_fn is o) rest) (sym h.4.1)
     (function_got r k w at is o h.0 h.1 h.2 h.3 rest (omega (arith, m)) f.0 f.1 h.5 h.6 h.7 y z)
 ty_got r k w s at (ty_group t) ts rest m f h y z = absurd f
 ty_got r k w s at (ty_impl bs) ts rest m f h y z =
     let g = some_bounds_got r k w at bs h.0 rest (omega (arith, m)) f.0 f.1 h.2 y (z refl) in
-    subst (λ v. TyGot (ty_body r at v) (ty_impl bs) rest) (sym h.1.1) (ty_impl (bounds_of g.0), bind_at (some_bounds r at h.0) _ _ g.1, (λ q. ap ty_impl (g.2 q)), g.3)
-ty_got r k w s at (ty_infer u) ts rest m f h y z = subst (λ v. TyGot (ty_body r at v) (ty_infer u) rest) (sym h) (ty_infer u, refl, (λ q. refl), tt)
+    subst (λ v. TyGot (ty_body r at v) (ty_impl bs) rest) (sym h.1.1) (ty_impl (bounds_of g.0), bind_at (some_bounds r at h.0) _ _ g.1, (λ q. ap ty_impl (g.2 q)), g.3, λ c. g.4 c false)
+ty_got r k w s at (ty_infer u) ts rest m f h y z = subst (λ v. TyGot (ty_body r at v) (ty_infer u) rest) (sym h) (ty_infer u, refl, (λ q. refl), tt, λ c. refl)
 ty_got r k w s at (ty_macro p n) ts rest m f h y z =
     let g = macro_got r k w at p n ts h.0 h.1 rest (omega (arith, m)) f.0 f.1 f.2 h.2 h.3 h.4 in
-    (g.0, ty_at_path r at ts (path_begins p ts h.0 f.0 h.2) ∙ g.1, g.2, g.3)
-ty_got r k w s at (ty_never u) ts rest m f h y z = subst (λ v. TyGot (ty_body r at v) (ty_never u) rest) (sym h.1) (ty_never u, refl, (λ q. refl), tt)
+    (g.0, ty_at_path r at ts (path_begins p ts h.0 f.0 h.2) ∙ g.1, g.2, g.3, g.4)
+ty_got r k w s at (ty_never u) ts rest m f h y z = subst (λ v. TyGot (ty_body r at v) (ty_never u) rest) (sym h.1) (ty_never u, refl, (λ q. refl), tt, λ c. refl)
 ty_got r k w s at (ty_paren t) ts rest m f h y z =
     let d = w.tys h.1.0 (more_tys t end_tys) false (list_of h.0) (omega (arith, m)) (f, tt) ([], h.2, refl) in
     let o = one_of d.0 t d.2 in
     subst (λ v. TyGot (ty_body r at v) (ty_paren t) rest) (sym h.1.1)
-    (ty_paren o.0, bind_at (r.tys h.1.0 (list_of h.0)) _ _ d.1 ∙ ap (λ v. Ok (parenthesised (v, false), rest)) o.1, (λ q. let e : tys_of d.0 ≡ more_tys t end_tys = d.3 (q, tt) in let i : more_tys o.0 end_tys ≡ more_tys t end_tys = ap tys_of (sym o.1) ∙ e in ap ty_paren (cc (i))), (subst (λ z. TysLengths (tys_of z)) o.1 d.4).0)
+    (ty_paren o.0, bind_at (r.tys h.1.0 (list_of h.0)) _ _ d.1 ∙ ap (λ v. Ok (parenthesised (v, false), rest)) o.1, (λ q. let e : tys_of d.0 ≡ more_tys t end_tys = d.3 (q, tt) in let i : more_tys o.0 end_tys ≡ more_tys t end_tys = ap tys_of (sym o.1) ∙ e in ap ty_paren (cc (i))), (subst (λ z. TysLengths (tys_of z)) o.1 d.4).0, λ c. refl)
 ty_got r k w s at (ty_path no_qself (path l ss)) ts rest m f h y z =
     let q = subst (λ v. SegmentsThen 0 l ss v rest) (sym h.1) h.2 in
     let g = plain_got r k w at l ss ts rest (omega (arith, m)) f.1.0 f.1.1 q y z in
-    (g.0, ty_at_path r at ts (path_start 0 l ss ts rest f.1.0 f.1.1 q) ∙ g.1, g.2, g.3)
+    (g.0, ty_at_path r at ts (path_start 0 l ss ts rest f.1.0 f.1.1 q) ∙ g.1, g.2, g.3, g.4)
 ty_got r k w s at (ty_path (some_qself (qself t n)) (path l ss)) ts rest m f h y z =
-    let g = qualified_got r k w at t n l ss h.1.0 h.1.1 h.0 rest (omega (arith, m)) f.0 f.1.1 h.1.3 h.1.4 h.2 (y.stops, (λ q. y), z) in
+    let g = qualified_got r k w at t n l ss h.1.0 h.1.1 h.0 rest (omega (arith, m)) f.0 f.1.1 h.1.3 h.1.4 h.2 (pauses_stop (gives_last false ss) rest y, y.bang, z) in
     subst (λ v. TyGot (ty_body r at v) (ty_path (some_qself (qself t n)) (path l ss)) rest) (sym h.1.2.2)
-    (ty_path (some_qself (qself g.0 n)) (path l g.1), bind_at (qualified_body r at h.1.0) _ _ g.2, (λ q. ap (λ v. ty_path (some_qself (qself v n)) (path l g.1)) (g.3 q.0) ∙ ap (λ v. ty_path (some_qself (qself t n)) (path l v)) (g.4 q.1)), (g.5, g.6))
+    (ty_path (some_qself (qself g.0 n)) (path l g.1), bind_at (qualified_body r at h.1.0) _ _ g.2, (λ q. ap (λ v. ty_path (some_qself (qself v n)) (path l g.1)) (g.3 q.0) ∙ ap (λ v. ty_path (some_qself (qself t n)) (path l v)) (g.4 q.1)), (g.5, g.6), λ c. ap (λ v. cond c v true) g.7)
 ty_got r k w s at (ty_pointer n t) ts rest m f h y z =
     subst (λ v. TyGot (ty_body r at v) (ty_pointer n t) rest) (sym h.2.2) (pointer_got r k w at n t h.0 h.1 rest (omega (arith, m)) f h.3 h.4 y z)
 ty_got r k w s at (ty_reference l n t) ts rest m f h y z =
     subst (λ v. TyGot (ty_body r at v) (ty_reference l n t) rest) (sym h.3.2) (reference_got r k w at l n t h.0 h.1 h.2 rest (omega (arith, m)) f h.4 h.5 h.6 y z)
 ty_got r k w s at (ty_slice t) ts rest m f h y z =
     let g = slice_got r k w h.1.0 t (list_of h.0) (omega (arith, m)) f h.2 in
-    subst (λ v. TyGot (ty_body r at v) (ty_slice t) rest) (sym h.1.1) (g.0, bind_at (bracketed_body r h.1.0 (list_of h.0)) _ _ g.1, g.2, g.3)
+    subst (λ v. TyGot (ty_body r at v) (ty_slice t) rest) (sym h.1.1) (g.0, bind_at (bracketed_body r h.1.0 (list_of h.0)) _ _ g.1, g.2, g.3, g.4)
 ty_got r k w s at (ty_object bs) ts rest m f h y z =
     let g = some_bounds_got r k w at bs h.0 rest (omega (arith, m)) f.0 f.1 h.2 y (z refl) in
-    subst (λ v. TyGot (ty_body r at v) (ty_object bs) rest) (sym h.1.1) (ty_object (bounds_of g.0), bind_at (some_bounds r at h.0) _ _ g.1, (λ q. ap ty_object (g.2 q)), g.3)
+    subst (λ v. TyGot (ty_body r at v) (ty_object bs) rest) (sym h.1.1) (ty_object (bounds_of g.0), bind_at (some_bounds r at h.0) _ _ g.1, (λ q. ap ty_object (g.2 q)), g.3, λ c. g.4 c false)
 ty_got r k w s at (ty_tuple is) ts rest m f h y z =
     let d = w.tys h.2.0 is h.1 (list_of h.0) (omega (arith, m)) f h.3 in
     subst (λ v. TyGot (ty_body r at v) (ty_tuple is) rest) (sym h.2.1)
-    (ty_tuple (tys_of d.0), bind_at (r.tys h.2.0 (list_of h.0)) _ _ d.1 ∙ ap (λ v. Ok (v, rest)) (tuple_of d.0 h.1 is d.2 h.4), (λ q. ap ty_tuple (d.3 q)), d.4)
+    (ty_tuple (tys_of d.0), bind_at (r.tys h.2.0 (list_of h.0)) _ _ d.1 ∙ ap (λ v. Ok (v, rest)) (tuple_of d.0 h.1 is d.2 h.4), (λ q. ap ty_tuple (d.3 q)), d.4, λ c. refl)
 ty_got r k w s at (ty_verbatim n) ts rest m f h y z = absurd f
 
 -- each level

@@ -458,6 +458,10 @@ not_open : (b n : Bool) → (b ≡ true → n ≡ false) → n ≡ true → b �
 not_open true n h e = let k = h refl in absurd (cc)
 not_open false n h e = refl
 
+not_next : (b : Bool) → (b ≡ true → false ≡ true) → b ≡ false
+not_next true h = let k = h refl in absurd (cc)
+not_next false h = refl
+
 no_sign : (c : ℕ) (ts : List Tok) → sign_front c ts ≡ None → sign_next c ts ≡ false
 no_sign c [] e = refl
 no_sign c (t ∷ ts) e = none (is_sign c t) refl e
@@ -469,7 +473,8 @@ no_sign c (t ∷ ts) e = none (is_sign c t) refl e
 more_read : (b : BoundD) (ms : List BoundD) (ts a c rest : List Tok) → bound_next ts ≡ true → BoundRead ts (b, a) → sign_front 43 a ≡ Some c → BoundsRead c (ms, rest) → BoundsRead ts (b ∷ ms, rest)
 more_read b [] ts a c rest n k e m =
     let o = not_open (ends_bound b) (sign_next 43 a) k.2 (sign_then_next 43 a c e) in
-    ((k.0, λ z. o, tt), (a, k.1, inr (subst (λ z. SignThen 43 a z) m.1 (sign_stands 43 a c e), o)), m.2, λ z. refl)
+    let z : bound_next rest ≡ false = subst (λ v. bound_next v ≡ false) m.1 (not_next (bound_next c) m.3) in
+    ((k.0, λ z. o, tt), (a, k.1, inr (subst (λ z. SignThen 43 a z) m.1 (sign_stands 43 a c e), o, z)), m.2, λ z. refl)
 more_read b (d ∷ ds) ts a c rest n k e m =
     let o = not_open (ends_bound b) (sign_next 43 a) k.2 (sign_then_next 43 a c e) in
     ((k.0, λ z. o, m.0), (a, k.1, (c, m.1.0, sign_stands 43 a c e, m.1.1, m.1.2)), m.2, λ z. refl)

@@ -1,4 +1,4 @@
-use Rattle.std.proofs.Common.{◌≡◌, ◌≤◌, ◌++◌, map}
+use Rattle.std.proofs.Common.{◌≡◌, ◌++◌, map}
 use Rattle.token_trees.specs.View.{trees}
 use Rattle.syntax_trees.specs.View.{lifetime_view}
 use Rattle.syntax_parsers.specs.Where.{some_lifetimes}

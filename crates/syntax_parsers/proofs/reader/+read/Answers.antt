@@ -1,6 +1,6 @@
 -- The loops of the readers: what was read before, and one element more.
-use Rattle.std.proofs.Common.{◌≡◌, ◌-◌, ◌<◌, Bool, true, false, List, [], ◌∷◌, ◌++◌, map, length, refl, ap, sym, ◌∙◌, arith, rules}
-use Rattle.std.specs.Prelude.{Result, Ok, nat_eq, is_some}
+use Rattle.std.proofs.Common.{◌≡◌, ◌-◌, true, false, List, [], ◌∷◌, ◌++◌, map, length, refl, ap, sym, ◌∙◌, arith, rules}
+use Rattle.std.specs.Prelude.{Ok, nat_eq, is_some}
 use Rattle.std.proofs.lemmas.List.{map_push}
 use Rattle.token_trees.specs.View.{trees}
 use Rattle.syntax_trees.specs.Syntax.{TyD, SegmentD, BoundD, GenericD}

@@ -1,5 +1,5 @@
 -- A reader's measure: room first, then how many readers it may still call on the same room.
-use Rattle.std.proofs.Common.{ℕ, ◌+◌, ◌*◌, ◌≤◌, ◌≡◌, map}
+use Rattle.std.proofs.Common.{◌+◌, ◌*◌, ◌≤◌, ◌≡◌, map}
 use Rattle.token_trees.specs.View.{trees}
 use Rattle.syntax_trees.specs.View.{ty, segment_view, bound_view, generic_view}
 use Rattle.syntax_parsers.specs.Answer.{with_first}

@@ -1,4 +1,4 @@
-use Rattle.std.proofs.Common.{ℕ, ◌+◌, ◌*◌, ◌≡◌, length}
+use Rattle.std.proofs.Common.{◌+◌, ◌*◌, ◌≡◌, length}
 use Rattle.token_trees.specs.View.{tree, trees}
 use Rattle.syntax_parsers.specs.Fronts.{weight, tree_weight}
 use Rattle.syntax_parsers.proofs.whole.+weigh.Given as goal
