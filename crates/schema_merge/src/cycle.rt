@@ -19,21 +19,21 @@ ghost use Rattle.schema_merge.specs.declared.how.How.TheVariants.{Join, Less};
 ghost use Rattle.schema_merge.specs.Finds.{Finds};
 ghost use Rattle.schema_merge.specs.Within.{asked_in, document_in, folded, join_in, less_in};
 
+use crate::apart::{
+    add_turned, body_of, clashed, each_front, ended, finish, finished, gather, judge, left_of,
+    made_members, meet, meet_less, parts_of, stand_for, two_lists, two_members,
+};
 use crate::how::{How, Scope};
 use crate::outside::{boxed, no_rest, too_few};
-use merge_branches::{Branch, Kept, SameParts, finish, judge, none_kept, parts_of};
-use merge_lists::{
-    Around, ListPlan, MergedPlaces, Pair, Places, at_end, clashed, each_front, ended, goes_on,
-    is_full, two_lists,
-};
+use merge_branches::{Branch, Kept, SameParts, none_kept};
+use merge_lists::{Around, ListPlan, MergedPlaces, Pair, Places, at_end, goes_on, is_full};
 use merge_members::{
-    Bound, Entry, Gathered, MemberPlan, Members, RestPlan, gather, made_members, none_gathered,
-    or_false, two_members,
+    Bound, Entry, Gathered, MemberPlan, Members, RestPlan, none_gathered, or_false,
 };
-use merge_parts::{MergeNote, add_turned};
-use merge_sides::{Asked, Bodies, Met, body_of, finished, meet, part_on, stand_for};
+use merge_parts::MergeNote;
+use merge_sides::{Asked, Bodies, Met, part_on};
 use merge_steps::{Stop, or_never};
-use merge_taken::{Listed, Taken, Taking, left_of, meet_less};
+use merge_taken::{Listed, Taken, Taking};
 use schema_types::{ArrayValidation, ObjectValidation, Schema, Subschemas, Walk};
 
 // ---- two schemas

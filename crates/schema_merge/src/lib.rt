@@ -1,6 +1,7 @@
 //! Merges and subtractions of schemas by walks.
 #![tactic(auto)]
 
+mod apart;
 mod calls;
 mod cycle;
 pub mod examples;

@@ -21,6 +21,24 @@ impl Schema {
     }
 }
 
+impl SchemaObject {
+    /// A copy, walks included.
+    pub fn try_clone(&self, alloc: Global) -> Result<SchemaObject, AllocError>
+        ensures { IfOk result (λ o. object_view o ≡ object_view self.now) }
+    {
+        copy_object(alloc, self)
+    }
+}
+
+impl Subschemas {
+    /// A copy, walks included.
+    pub fn try_clone(&self, alloc: Global) -> Result<Subschemas, AllocError>
+        ensures { IfOk result (λ s. subschemas_view s ≡ subschemas_view self.now) }
+    {
+        copy_subschemas(alloc, self)
+    }
+}
+
 #[cycle(copy)]
 fn copy_schema(alloc: Global, from: &Schema) -> Result<Schema, AllocError>
     ensures { IfOk result (λ s. schema_view s ≡ schema_view from.now) }
