@@ -1,9 +1,9 @@
 //! The calls, and what they answer as text.
 use crate::show::push_schema;
-use case_words::fault_text;
-use merge_parts::{MergeKind, UnsupportedMerge, Way};
-use merge_told::{Merged, PlacedNote, Refusal, merge_all, subtract, try_merge_with_subschemas};
-use schema_tree::{Document, Schema, SchemaObject};
+use case_words::{fault_text, push_fault};
+use merge_parts::{MergeKind, Way};
+use merge_told::{Merged, PlacedNote, merge_all, subtract, try_merge_with_subschemas};
+use schema_tree::{Document, Fault, Schema, SchemaObject};
 use serde_json::Value;
 use std::alloc::{AllocError, Global};
 use std::fmt::Write;
@@ -63,31 +63,20 @@ fn merged(
     text_of(alloc, found)
 }
 
-// The root without its subschemas.
-fn body_of(alloc: Global, schema: &Schema) -> Result<Schema, AllocError> {
-    match schema.try_clone(alloc)? {
-        Schema::Bool(b) => Ok(Schema::Bool(b)),
-        Schema::Object(object) => {
-            let mut object = object;
-            object.subschemas = None;
-            Ok(Schema::Object(object))
-        }
-    }
-}
-
 fn with_subschemas(
     alloc: Global,
     depth: u32,
     document: &Document,
     object: &SchemaObject,
 ) -> Result<String, AllocError> {
-    let body = body_of(alloc, document.root())?;
+    let mut body = object.try_clone(alloc)?;
+    body.subschemas = None;
     let found = try_merge_with_subschemas(
         alloc,
         document.parts(),
         depth,
         &body,
-        &object.subschemas,
+        object.subschemas.as_ref(),
     );
     text_of(alloc, found)
 }
@@ -119,11 +108,11 @@ fn subtracted(
 
 // ---- answers
 
-fn text_of(alloc: Global, found: Result<Merged, Refusal>) -> Result<String, AllocError> {
+fn text_of(alloc: Global, found: Result<Merged, Fault>) -> Result<String, AllocError> {
     let mut text = String::new(alloc);
     match found {
         Ok(merged) => push_merged(alloc, &mut text, &merged)?,
-        Err(refusal) => push_refusal(alloc, &mut text, &refusal)?,
+        Err(fault) => push_refusal(alloc, &mut text, &fault)?,
     }
     Ok(text)
 }
@@ -166,30 +155,9 @@ fn kind_word(kind: MergeKind) -> &'static str {
     }
 }
 
-fn push_refusal(alloc: Global, out: &mut String, refusal: &Refusal) -> Result<(), AllocError> {
-    match refusal {
-        Refusal::Memory => out.push_str("Memory"),
-        Refusal::TooDeep(walk) => {
-            out.push_str("Depth")?;
-            for location in &walk.locations {
-                let path = location.text(alloc)?;
-                write!(out, " {path}")?;
-            }
-            Ok(())
-        }
-        Refusal::Cannot(what, path) => {
-            let word = unsupported_word(*what);
-            let path = path.text(alloc)?;
-            write!(out, "Unsupported {word} {path}")
-        }
-    }
-}
-
-fn unsupported_word(what: UnsupportedMerge) -> &'static str {
-    match what {
-        UnsupportedMerge::Conditional => "Conditional",
-        UnsupportedMerge::AnyBesideOne => "AnyOne",
-        UnsupportedMerge::PatternNames => "Names",
-        UnsupportedMerge::Subtracting => "Subtract",
+fn push_refusal(alloc: Global, out: &mut String, fault: &Fault) -> Result<(), AllocError> {
+    match fault {
+        Fault::Memory => out.push_str("Memory"),
+        _ => push_fault(alloc, out, fault),
     }
 }

@@ -4,7 +4,9 @@ ghost use Rattle.schema_defs.specs.Walks.{IsGuarded};
 ghost use Rattle.schema_types.specs.DocumentView.{document_view};
 
 use crate::calls::said;
-use merge_told::examples::{a_clash_is_told, one_value_is_told, texts_are_told};
+use merge_told::examples::{
+    a_clash_is_told, one_value_is_told, texts_are_roughly_texts, texts_are_told,
+};
 use schema_defs::Setting;
 use schema_loops::is_guarded;
 use schema_merge::examples::{integers_are_left, items_clash, one_value_is_left, texts_stay};
@@ -70,5 +72,11 @@ fn texts_are_told_so(rt: HostRuntime) -> Result<(), Fail> {
 fn one_value_is_told_so(rt: HostRuntime) -> Result<(), Fail> {
     let document = bare(rt.alloc())?;
     assert!(rt; said(one_value_is_told(rt.alloc(), &document))?);
+    Ok(())
+}
+
+#[test]
+fn texts_are_roughly_texts_so(rt: HostRuntime) -> Result<(), Fail> {
+    assert!(rt; said(texts_are_roughly_texts(rt.alloc()))?);
     Ok(())
 }

@@ -1,27 +1,19 @@
 -- What a call of merging answers, as the program holds it.
-use Rattle.std.specs.Prelude.{List, Option, Some, None, map, option_map}
+use Rattle.std.specs.Prelude.{List, map, option_map}
 use Rattle.schema_defs.specs.Location.{Location}
 use Rattle.schema_types.specs.View.{schema_view}
 use Rattle.merge_defs.specs.Outcome.{Note}
-use Rattle.merge_parts.specs.View.{way_view, kind_view, unsupported_view}
+use Rattle.merge_parts.specs.View.{way_view, kind_view}
 use Rattle.merge_walks.specs.Told as defs
-use Rattle.merge_walks.specs.Told.{note_at, too_deep, cannot}
+use Rattle.merge_walks.specs.Told.{note_at}
 use Rattle.merge_told.specs.declared.told.PlacedNote.{PlacedNote}
 use Rattle.merge_told.specs.declared.told.Merged.{Merged}
-use Rattle.merge_told.specs.declared.told.Refusal.{Refusal}
-use Rattle.merge_told.specs.declared.told.Refusal.TheVariants.{Memory, TooDeep, Cannot}
 
 abbrev pub placed_view : PlacedNote → defs.PlacedNote
 placed_view n = record { way = way_view n.way; kind = kind_view n.kind; path = n.path }
 
 abbrev pub merged_view : Merged → defs.Merged
 merged_view m = record { schema = option_map schema_view m.schema; notes = map placed_view m.notes.items }
-
--- want of memory is no refusal of the merge
-abbrev pub refusal_view : Refusal → Option defs.Refusal
-refusal_view Memory = None
-refusal_view (TooDeep w) = Some (too_deep w)
-refusal_view (Cannot u l) = Some (cannot (unsupported_view u) l)
 
 -- notes that stand at one place
 abbrev pub placed_at : Location → List Note → List defs.PlacedNote

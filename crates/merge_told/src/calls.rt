@@ -1,23 +1,26 @@
 //! The calls of merging. What they answer tells at the last place of the walk of the first schema that is handed in.
 ghost use Rattle.std.specs.Prelude.{◌≡◌, IfErr, IfOk, option_map};
-ghost use Rattle.std.specs.Option.{IfSome};
 ghost use Rattle.schema_defs.specs.Schema.{schemas};
 ghost use Rattle.schema_defs.specs.Walks.{IsGuarded};
-ghost use Rattle.schema_types.specs.View.{same_of, schema_view, schemas_view, subschemas_view};
+ghost use Rattle.schema_types.specs.View.{object_view, same_of, schema_view, schemas_view, subschemas_view};
 ghost use Rattle.schema_types.specs.DocumentView.{document_view};
-ghost use Rattle.merge_walks.specs.Told.{place_of as place_of_def, place_of_first as place_of_first_def, refused, told as told_of};
+ghost use Rattle.merge_walks.specs.Told.{place_of as place_of_def, place_of_first as place_of_first_def, told as told_of};
 ghost use Rattle.merge_told.specs.Ordered.{merge_all_told, subtract_told, with_subschemas_told};
-ghost use Rattle.merge_told.specs.View.{merged_view, refusal_view};
+ghost use Rattle.merge_told.specs.Refusals.{Refused};
+ghost use Rattle.merge_told.specs.View.{merged_view};
+ghost use Rattle.schema_tree.specs.Fault.{fault_view};
 
 use crate::telling::tell;
-use crate::told::{Merged, Refusal};
+use crate::told::Merged;
 use merge_carried::Side;
+use merge_sides::as_schema;
 use schema_merge::{less_schemas, merge_schemas, with_subschemas};
-use schema_types::{Document, Location, Schema, Subschemas};
+use schema_tree::Fault;
+use schema_types::{Document, Location, Schema, SchemaObject, Subschemas};
 use std::alloc::{AllocError, Global};
 
 /// How many parts are merged within one another, so that the stack holds.
-pub const LEVELS: u32 = 128;
+pub const LEVELS: u32 = 400;
 
 fn place_of(alloc: Global, schema: &Schema) -> Result<Location, AllocError>
     ensures { IfOk result (λ l. l ≡ place_of_def (schema_view schema.now)) }
@@ -45,37 +48,70 @@ fn copies(alloc: Global, list: &[Schema]) -> Result<Vec<Schema>, AllocError>
     Ok(copies)
 }
 
-/// The merge of several schemas from the left; of none it is `true`. Walks have at most `depth` steps, and at most 128 parts are merged within one another; where more would be, memory counts as wanting.
+fn body_of(alloc: Global, body: &SchemaObject) -> Result<Schema, AllocError>
+    ensures { IfOk result (λ s. schema_view s ≡ object_view body.now) }
+{
+    let copy = body.try_clone(alloc)?;
+    let boxed = Box::new(alloc, copy)?;
+    Ok(as_schema(boxed))
+}
+
+fn copy_of(alloc: Global, subschemas: Option<&Subschemas>) -> Result<Option<Subschemas>, AllocError>
+    ensures { IfOk result (λ o. option_map subschemas_view o ≡ option_map (λ s. subschemas_view s.now) subschemas.entry) }
+{
+    match subschemas {
+        None => Ok(None),
+        Some(subschemas) => {
+            let copy = subschemas.try_clone(alloc)?;
+            Ok(Some(copy))
+        }
+    }
+}
+
+/// The merge of several schemas from the left; of none it is `true`. Refused are the first walk that is met with more than `depth` steps (`Depth`), and what isn't merged (`Unsupported`, at the
+/// last place of the first schema's walk). `Memory` comes where memory runs out, or more than 400 parts would be merged within one another.
 pub fn merge_all(
     alloc: Global,
     document: &Document,
     depth: u32,
     list: &[Schema],
-) -> Result<Merged, Refusal>
+) -> Result<Merged, Fault>
     requires { IsGuarded (document_view document.now) }
-    ensures answered { IfOk result (λ m. merge_all_told (document_view document.now) depth 128 (schemas (schemas_view list.now)) ≡ told_of (merged_view m)) }
-    ensures refused { IfErr result (λ e. IfSome (refusal_view e) (λ r. merge_all_told (document_view document.now) depth 128 (schemas (schemas_view list.now)) ≡ refused r)) }
+    ensures answered { IfOk result (λ m. merge_all_told (document_view document.now) depth 400 (schemas (schemas_view list.now)) ≡ told_of (merged_view m)) }
+    ensures refused { IfErr result (λ f. Refused (merge_all_told (document_view document.now) depth 400 (schemas (schemas_view list.now))) (fault_view f)) }
 {
-    let place = place_of_first(alloc, list)?;
-    let copies = copies(alloc, list)?;
+    let Ok(place) = place_of_first(alloc, list) else {
+        return Err(Fault::Memory);
+    };
+    let Ok(copies) = copies(alloc, list) else {
+        return Err(Fault::Memory);
+    };
     let mut notes = Vec::new(alloc);
     let found = merge_schemas(alloc, document, depth as usize, LEVELS, &mut notes, copies);
     tell(alloc, place, notes, found)
 }
 
-/// The merge of a body with subschemas that stand in it, in the same way.
+/// The merge of a body with subschemas that stand in it, in the same way, told at the last place of the body's walk.
 pub fn try_merge_with_subschemas(
     alloc: Global,
     document: &Document,
     depth: u32,
-    body: &Schema,
-    subschemas: &Option<Subschemas>,
-) -> Result<Merged, Refusal>
+    body: &SchemaObject,
+    subschemas: Option<&Subschemas>,
+) -> Result<Merged, Fault>
     requires { IsGuarded (document_view document.now) }
-    ensures answered { IfOk result (λ m. with_subschemas_told (document_view document.now) depth 128 (schema_view body.now) (same_of (option_map subschemas_view subschemas.now)) ≡ told_of (merged_view m)) }
-    ensures refused { IfErr result (λ e. IfSome (refusal_view e) (λ r. with_subschemas_told (document_view document.now) depth 128 (schema_view body.now) (same_of (option_map subschemas_view subschemas.now)) ≡ refused r)) }
+    ensures answered { IfOk result (λ m. with_subschemas_told (document_view document.now) depth 400 (object_view body.now) (same_of (option_map (λ s. subschemas_view s.now) subschemas.entry)) ≡ told_of (merged_view m)) }
+    ensures refused { IfErr result (λ f. Refused (with_subschemas_told (document_view document.now) depth 400 (object_view body.now) (same_of (option_map (λ s. subschemas_view s.now) subschemas.entry))) (fault_view f)) }
 {
-    let place = place_of(alloc, body)?;
+    let Ok(body) = body_of(alloc, body) else {
+        return Err(Fault::Memory);
+    };
+    let Ok(subschemas) = copy_of(alloc, subschemas) else {
+        return Err(Fault::Memory);
+    };
+    let Ok(place) = place_of(alloc, &body) else {
+        return Err(Fault::Memory);
+    };
     let mut notes = Vec::new(alloc);
     let found = with_subschemas(
         alloc,
@@ -83,27 +119,33 @@ pub fn try_merge_with_subschemas(
         depth as usize,
         LEVELS,
         &mut notes,
-        body,
-        subschemas,
+        &body,
+        &subschemas,
     );
     tell(alloc, place, notes, found)
 }
 
-/// What is left of a schema where another is taken away, in the same way.
+/// What is left of a schema where another is taken away, in the same way, told at the last place of the first one's walk.
 pub fn subtract(
     alloc: Global,
     document: &Document,
     depth: u32,
     from: &Schema,
     less: &Schema,
-) -> Result<Merged, Refusal>
+) -> Result<Merged, Fault>
     requires { IsGuarded (document_view document.now) }
-    ensures answered { IfOk result (λ m. subtract_told (document_view document.now) depth 128 (schema_view from.now) (schema_view less.now) ≡ told_of (merged_view m)) }
-    ensures refused { IfErr result (λ e. IfSome (refusal_view e) (λ r. subtract_told (document_view document.now) depth 128 (schema_view from.now) (schema_view less.now) ≡ refused r)) }
+    ensures answered { IfOk result (λ m. subtract_told (document_view document.now) depth 400 (schema_view from.now) (schema_view less.now) ≡ told_of (merged_view m)) }
+    ensures refused { IfErr result (λ f. Refused (subtract_told (document_view document.now) depth 400 (schema_view from.now) (schema_view less.now)) (fault_view f)) }
 {
-    let place = place_of(alloc, from)?;
-    let first = from.try_clone(alloc)?;
-    let second = less.try_clone(alloc)?;
+    let Ok(place) = place_of(alloc, from) else {
+        return Err(Fault::Memory);
+    };
+    let Ok(first) = from.try_clone(alloc) else {
+        return Err(Fault::Memory);
+    };
+    let Ok(second) = less.try_clone(alloc) else {
+        return Err(Fault::Memory);
+    };
     let mut notes = Vec::new(alloc);
     let found = less_schemas(
         alloc,

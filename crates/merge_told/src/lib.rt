@@ -3,10 +3,13 @@
 
 mod calls;
 pub mod examples;
+mod faults;
+mod likeness;
 mod ordering;
 mod telling;
 mod told;
 mod unmark;
 
 pub use calls::{LEVELS, merge_all, subtract, try_merge_with_subschemas};
-pub use told::{Merged, PlacedNote, Refusal};
+pub use likeness::Roughly;
+pub use told::{Merged, PlacedNote};

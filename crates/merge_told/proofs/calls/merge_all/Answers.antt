@@ -12,6 +12,6 @@ pub returns-clause-refused : goal.returns-clause-refused
 returns-clause-refused c =
     let d = document_view c.args.document.now in
     let r = c.merge_schemas-found.result in
-    refuses c.tell.result r c.in_ok-place.place _ (merge_by_walks d c.args.depth 128 (schemas (schemas_view c.args.list.now))) c.in_ok-place.ensures
-    (subst (λ ss. IfErr r (λ f. Faults f (merge_by_walks d c.args.depth 128 (schemas ss)))) c.in_ok-copies.ensures c.merge_schemas-found.ensures.refused)
+    refuses c.tell.result r c.in-Ok.place _ (merge_by_walks d c.args.depth 400 (schemas (schemas_view c.args.list.now))) c.in-Ok.ensures
+    (subst (λ ss. IfErr r (λ f. Faults f (merge_by_walks d c.args.depth 400 (schemas ss)))) c.in-Ok-copies.ensures c.merge_schemas-found.ensures.refused)
     c.tell.ensures.refused

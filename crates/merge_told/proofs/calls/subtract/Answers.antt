@@ -11,6 +11,6 @@ pub returns-clause-refused : goal.returns-clause-refused
 returns-clause-refused c =
     let d = document_view c.args.document.now in
     let r = c.less_schemas-found.result in
-    refuses c.tell.result r c.in_ok-place.place _ (less_by_walks d c.args.depth 128 (schema_view c.args.from.now) (schema_view c.args.less.now)) c.in_ok-place.ensures
-    (subst (λ t. t) (λ i. IfErr r (λ f. Faults f (less_by_walks d c.args.depth 128 (c.in_ok-first.ensures i) (c.in_ok-second.ensures i)))) c.less_schemas-found.ensures.refused)
+    refuses c.tell.result r c.in-Ok.place _ (less_by_walks d c.args.depth 400 (schema_view c.args.from.now) (schema_view c.args.less.now)) c.in-Ok.ensures
+    (subst (λ t. t) (λ i. IfErr r (λ f. Faults f (less_by_walks d c.args.depth 400 (c.in-Ok-try_clone.ensures i) (c.in-Ok-try_clone-2.ensures i)))) c.less_schemas-found.ensures.refused)
     c.tell.ensures.refused
