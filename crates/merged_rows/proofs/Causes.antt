@@ -1,6 +1,5 @@
 -- What is told of the faults of a merge.
-use Rattle.std.proofs.Common.{◌≡◌, ◌⊎◌, inl, inr, ℕ, [], ◌∷◌, Some, None, slice_get, refl, sym, subst}
-use Rattle.schema_defs.specs.Location.{Location}
+use Rattle.std.proofs.Common.{◌≡◌, ◌⊎◌, inl, inr, ℕ, [], ◌∷◌, refl, sym, subst}
 use Rattle.schema_defs.specs.Texts.{Relations}
 use Rattle.schema_defs.specs.Schema.{Schema, Document}
 use Rattle.schema_tree.specs.Fault.{FaultD, memory, depth, unsupported}
@@ -14,15 +13,8 @@ use Rattle.merge_parts.specs.declared.fault.UnsupportedMerge.{UnsupportedMerge}
 use Rattle.merge_parts.specs.Steps.{Faults}
 use Rattle.merge_parts.specs.View.{unsupported_view}
 use Rattle.merge_walks.specs.Carried.{Walk, last_of}
-use Rattle.merged_rows.specs.Told.{unmerged_kind, TellsDeep, TellsMerge, no_memory, by_walk, by_kind}
-
-pub few_levels : (w : Walk) (f : FaultD) → slice_get w 0 ≡ None → f ≡ memory → TellsDeep w f
-few_levels [] f h e = e
-few_levels (l ∷ w) f h e = cc
-
-pub by_depth : (w : Walk) (l : Location) (f : FaultD) → slice_get w 0 ≡ Some l → f ≡ depth w → TellsDeep w f
-by_depth [] l f h e = cc
-by_depth (k ∷ w) l f h e = e
+use Rattle.merge_faults.specs.Faults.{unmerged_kind, TellsDeep}
+use Rattle.merged_rows.specs.Told.{TellsMerge, no_memory, by_walk, by_kind}
 
 module _ (r : Relations) (d : Document) (most n : ℕ) (o : Spot) (m : Outcome Schema) (f : FaultD) where
   deep_is : (w : Walk) → TellsDeep w f → TellsMerge (merge_faults r d most n o (fault (defs.depth w))) f

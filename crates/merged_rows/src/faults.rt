@@ -9,26 +9,16 @@ ghost use Rattle.merge_defs.specs.Outcome.{Outcome};
 ghost use Rattle.merge_parts.specs.Steps.{Faults};
 ghost use Rattle.merge_parts.specs.View.{unsupported_view};
 ghost use Rattle.merged_rows.specs.Starts.{path_by, spot_of, walk_by};
-ghost use Rattle.merged_rows.specs.Told.{unmerged_kind, TellsDeep, TellsMerge};
+ghost use Rattle.merge_faults.specs.Faults.{unmerged_kind};
+ghost use Rattle.merged_rows.specs.Told.{TellsMerge};
 
 use crate::places::{location_of, walk_of};
 use crate::start::Start;
+use merge_faults::{depth_fault, unsupported_kind};
 use merge_parts::{MergeFault, UnsupportedMerge};
 use row_types::Steps;
-use schema_tree::{Fault, UnsupportedKind};
-use schema_types::Walk;
+use schema_tree::Fault;
 use std::alloc::Global;
-
-fn kind_of(kind: UnsupportedMerge) -> UnsupportedKind
-    ensures { result ≡ unmerged_kind (unsupported_view kind) }
-{
-    match kind {
-        UnsupportedMerge::Conditional => UnsupportedKind::Conditional,
-        UnsupportedMerge::AnyBesideOne => UnsupportedKind::AnyOne,
-        UnsupportedMerge::PatternNames => UnsupportedKind::Names,
-        UnsupportedMerge::Subtracting => UnsupportedKind::Subtract,
-    }
-}
 
 /// What is told where the walk of the schema at the end of a trail has too many steps.
 pub fn too_deep(alloc: Global, start: &Start, trail: &Vec<Steps<'_>>) -> Fault
@@ -40,24 +30,13 @@ pub fn too_deep(alloc: Global, start: &Start, trail: &Vec<Steps<'_>>) -> Fault
     }
 }
 
-// A walk that a merge met; none where there were too few levels.
-#[tactic(auto, using(crate::proofs::Causes::few_levels, crate::proofs::Causes::by_depth))]
-fn deep(walk: Walk) -> Fault
-    ensures { TellsDeep walk (fault_view result) }
-{
-    match walk.locations.first() {
-        None => Fault::Memory,
-        Some(_) => Fault::Depth { walk },
-    }
-}
-
 fn unmerged(alloc: Global, start: &Start, trail: &Vec<Steps<'_>>, kind: UnsupportedMerge) -> Fault
     ensures { (fault_view result ≡ memory) ⊎ (fault_view result ≡ unsupported (path_by start.now trail.now.items) (unmerged_kind (unsupported_view kind))) }
 {
     match location_of(alloc, start, trail) {
         Ok(path) => Fault::Unsupported {
             path,
-            kind: kind_of(kind),
+            kind: unsupported_kind(kind),
         },
         Err(_) => Fault::Memory,
     }
@@ -69,7 +48,7 @@ pub fn merge_fault(alloc: Global, start: &Start, trail: &Vec<Steps<'_>>, fault: 
 {
     match fault {
         MergeFault::Memory => Fault::Memory,
-        MergeFault::Depth(walk) => deep(walk),
+        MergeFault::Depth(walk) => depth_fault(walk),
         MergeFault::Unsupported(kind) => unmerged(alloc, start, trail, kind),
     }
 }

@@ -10,7 +10,6 @@ ghost use Rattle.convert_walks.specs.Tree.{definition_trees, document_tree, tree
 ghost use Rattle.merge_parts.specs.declared.fault.MergeFault.TheVariants.{Memory};
 ghost use Rattle.merge_walks.specs.Carried.{root_walk};
 ghost use Rattle.merged_rows.specs.Starts.{spot_of};
-ghost use Rattle.row_merges.specs.Levels.{most_levels};
 ghost use Rattle.row_merges.specs.Definitions.{is_under_defs, named_spot};
 ghost use Rattle.row_merges.specs.Merges.{merges_in, merges_view};
 
@@ -23,16 +22,6 @@ use row_types::Source;
 use schema_tree::{Document, Schema};
 use schema_types::{Location, Walk};
 use std::alloc::{AllocError, Global};
-
-// ---- levels
-
-/// How many schemas may stand in one another, those that merges make with them, so that the stack holds; beyond that memory counts as wanting. It takes no memory.
-#[tactic(auto, unfolding(crate::specs::Levels::most_levels))]
-pub fn levels() -> u32
-    ensures { result ≡ most_levels }
-{
-    128
-}
 
 // ---- starts
 

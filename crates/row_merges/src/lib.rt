@@ -8,6 +8,6 @@ mod listed;
 mod merge;
 mod scope;
 
-pub use document::{definition_start, levels, merges_at, merges_of, root_start};
+pub use document::{definition_start, merges_at, merges_of, root_start};
 pub use listed::{Listed, listed_parts};
 pub use merge::{Merge, MergeEnd};

@@ -10,7 +10,7 @@ returns-in-Memory c = λ r d most n h o k. no_memory refl
 
 pub returns-in-Depth : goal.returns-in-Depth
 returns-in-Depth c = λ r d most n h o k.
-    deep_told r d most n (spot_of c.args.start.now c.args.trail.now.items h) o (fault_view c.deep.result) c.args.fault c.in-Depth.walk c.in-Depth.is c.deep.ensures k
+    deep_told r d most n (spot_of c.args.start.now c.args.trail.now.items h) o (fault_view c.depth_fault.result) c.args.fault c.in-Depth.walk c.in-Depth.is c.depth_fault.ensures k
 
 pub returns-in-Unsupported : goal.returns-in-Unsupported
 returns-in-Unsupported c = λ r d most n h o k.
