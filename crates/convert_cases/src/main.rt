@@ -11,11 +11,14 @@ use case_words::fault_text;
 use convert_trees::table_of;
 use notes::{push_notes, push_unread};
 use regex_texts::RegexTexts;
-use row_merges::{levels, merges_of};
+use row_merges::merges_of;
 use schema_tree::Document;
 use serde_json::Value;
 use std::alloc::{AllocError, Global};
 use tables::push_table;
+
+// How many schemas may stand in one another.
+const LEVELS: u32 = 400;
 
 fn main(rt: HostRuntime) -> Result<(), anyhow::Error> {
     let alloc = rt.alloc();
@@ -50,7 +53,7 @@ fn answer(
         return String::from_str(alloc, "no JSON");
     };
     match Document::read(alloc, &value) {
-        Ok(document) => converted(alloc, depth, &document, texts),
+        Ok(document) => converted(alloc, depth, LEVELS, &document, texts),
         Err(fault) => fault_text(alloc, &fault),
     }
 }
@@ -58,13 +61,14 @@ fn answer(
 fn converted(
     alloc: Global,
     depth: u32,
+    levels: u32,
     document: &Document,
     texts: &mut RegexTexts,
 ) -> Result<String, AllocError> {
-    let Ok(merges) = merges_of(alloc, document, depth, levels()) else {
+    let Ok(merges) = merges_of(alloc, document, depth, levels) else {
         return String::from_str(alloc, "no merges");
     };
-    match table_of(alloc, document, &merges, depth, levels(), texts) {
+    match table_of(alloc, document, &merges, depth, levels, texts) {
         Ok(found) => {
             let mut line = String::new(alloc);
             push_table(&mut line, &found.table)?;

@@ -1,22 +1,28 @@
 -- How a fault is told.
-use Rattle.std.specs.Prelude.{Result, Ok, Err, IfErr, IsErrAnd}
-use Rattle.std.proofs.Common.{◌≡◌, ℕ, ◌≤◌, inl, inr, List, ◌∷◌, refl, sym, subst, arith}
+use Rattle.std.specs.Prelude.{Result, Ok, Err, IfErr, IsErrAnd, Contains}
+use Rattle.std.proofs.Common.{◌≡◌, ℕ, ◌≤◌, inl, inr, List, [], ◌∷◌, refl, sym, subst, arith}
 use Rattle.run_io.specs.Bytes.{Rises}
 use Rattle.schema_defs.specs.Location.{Location}
 use Rattle.schema_defs.specs.Schema.{Schema}
 use Rattle.convert_defs.specs.Row.{Finding, Cause}
-use Rattle.schema_tree.specs.Fault.{FaultD, memory, texts}
+use Rattle.schema_tree.specs.Fault.{FaultD, memory}
 use Rattle.convert_trees.specs.Told as told
 use Rattle.convert_trees.specs.Told.{NoAnswer, RefusesBy, told_cause}
 
-pub want : (old new : ℕ) (f : FaultD) → f ≡ memory → NoAnswer old new f
-want old new f e = told.no_memory e
+pub want : (ls : List Location) (old new : ℕ) (f : FaultD) → f ≡ memory → NoAnswer ls old new f
+want ls old new f e = told.no_memory e
 
-pub no_texts : (old new : ℕ) (f : FaultD) (m : Location) → f ≡ texts m → Rises old new → NoAnswer old new f
-no_texts old new f m e h = told.failed m e h
+-- the first of several places
+pub first_place : (l m : Location) (ls : List Location) → m ≡ l → Contains (l ∷ ls) m
+first_place l m ls e = (0, omega arith, sym e)
+
+-- among more places
+pub none_among : (ls ms : List Location) (old new : ℕ) (f : FaultD) → ((m : Location) → Contains ls m → Contains ms m) → NoAnswer ls old new f → NoAnswer ms old new f
+none_among ls ms old new f h (told.no_memory e) = told.no_memory e
+none_among ls ms old new f h (told.failed m c e k) = told.failed m (h m c) e k
 
 module _ (l : Location) (s : Schema) (fd : Finding) (old new : ℕ) where
-  pub no_answer_by : (cs : List Cause) (f : FaultD) → NoAnswer old new f → RefusesBy l s fd old new cs f
+  pub no_answer_by : (cs : List Cause) (f : FaultD) → NoAnswer (l ∷ []) old new f → RefusesBy l s fd old new cs f
   no_answer_by cs f h = told.unanswered h
 
   pub want_by : (cs : List Cause) (f : FaultD) → f ≡ memory → RefusesBy l s fd old new cs f
@@ -36,6 +42,6 @@ rises_from : (a b c : ℕ) → a ≤ b → Rises b c → Rises a c
 rises_from a b c h (inl k) = inl (omega (arith, h, k))
 rises_from a b c h (inr k) = inr k
 
-pub none_from : (a b c : ℕ) (f : FaultD) → a ≤ b → NoAnswer b c f → NoAnswer a c f
-none_from a b c f h (told.no_memory e) = told.no_memory e
-none_from a b c f h (told.failed m e k) = told.failed m e (rises_from a b c h k)
+pub none_from : (ls : List Location) (a b c : ℕ) (f : FaultD) → a ≤ b → NoAnswer ls b c f → NoAnswer ls a c f
+none_from ls a b c f h (told.no_memory e) = told.no_memory e
+none_from ls a b c f h (told.failed m i e k) = told.failed m i e (rises_from a b c h k)

@@ -21,8 +21,8 @@ use Rattle.convert_trees.specs.Keeping.{KeptD, with_unread}
 use Rattle.stated_walks.specs.Stated.{part_places, stated_parts}
 use Rattle.convert_trees.specs.Unread.{unread_of, unread_listed}
 use Rattle.convert_trees.specs.Told as told
-use Rattle.convert_trees.specs.Told.{AreFine, IsTold, IsToldOf, RefusesBy, unanswered, by_cause, TellsStated, out_of_memory, by_default, Refuses, by_none, by_fault, Begins}
-use Rattle.convert_trees.proofs.Telling.{none_fine, both_fine, refuses_first, refuses_second, tells_head, cut_refuses, told_by_levels, refuses_by_levels}
+use Rattle.convert_trees.specs.Told.{NoAnswer, AreFine, IsTold, IsToldOf, RefusesBy, unanswered, by_cause, TellsStated, out_of_memory, by_default, Refuses, by_none, by_fault, RefusesOf, at_schema, at_parts, Begins}
+use Rattle.convert_trees.proofs.Telling.{none_of_first, none_fine, both_fine, refuses_first, refuses_second, tells_head, cut_refuses, told_by_levels, refuses_by_levels}
 
 -- a schema that is converted, and what is below it
 module _ (r : Relations) (d : Document) (most n : ℕ) (o : Spot) (s : Schema) where
@@ -88,8 +88,12 @@ module _ (r : Relations) (d : Document) (most n : ℕ) (o : Spot) (s : Schema) w
       whole_refuses : Refuses r d most n old new (node_with None ∷ (cut_below ++ parts_below)) f → Refused
       whole_refuses k = subst (λ (ts : List Node). Refuses r d most n old new ts f) (sym plain_is) k
 
+      -- no answer at the schema's own place
+      own_fails : NoAnswer (o.path ∷ []) old new f → Refuses r d most n old new (node_with None ∷ (cut_below ++ parts_below)) f
+      own_fails k = by_none (none_of_first f old new (node_with None ∷ []) (cut_below ++ parts_below) k)
+
       own_by : RefusesBy o.path s (finding_of r d s) old new (finding_faults r d most (finding_of r d s)) f → Refuses r d most n old new (node_with None ∷ (cut_below ++ parts_below)) f
-      own_by (unanswered k) = by_none k
+      own_by (unanswered k) = own_fails k
       own_by (by_cause c cs g k) =
           by_fault (tells_head r d most n f (node_with None) (cut_below ++ parts_below)
           (told.of_reason o.path (by_row c) (by_rows cs) (ap by_rows g) k))
@@ -124,8 +128,9 @@ module _ (r : Relations) (d : Document) (most n : ℕ) (o : Spot) (s : Schema) w
         cut_fine : AreFine r d most n cut_below
         cut_fine = subst (λ (ts : List Node). AreFine r d most n ts) (sym b) (none_fine r d most n)
 
-        pub parts_here : (f : FaultD) (old new : ℕ) → Refuses r d most n old new parts_below f → Refuses r d most n old new (tree_at r d most (suc n) o s) f
-        parts_here f old new k =
+        pub parts_here : (f : FaultD) (old new : ℕ) → RefusesOf r d most n o.path old new parts_below f → Refuses r d most n old new (tree_at r d most (suc n) o s) f
+        parts_here f old new (at_schema k) = whole_refuses f old new (own_fails f old new k)
+        parts_here f old new (at_parts k) =
             whole_refuses f old new (refuses_second r d most n f old new (node_with None ∷ []) (cut_below ++ parts_below) (own_fine g u)
             (refuses_second r d most n f old new cut_below parts_below cut_fine k))
 

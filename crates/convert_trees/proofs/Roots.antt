@@ -1,20 +1,21 @@
 -- A document: its definitions, and its root behind them.
-use Rattle.std.specs.Prelude.{Option, Some, None}
+use Rattle.std.specs.Prelude.{Option, Some, None, Contains}
 use Rattle.json_value.specs.Value.{Value}
-use Rattle.std.proofs.Common.{◌≡◌, ℕ, ◌≤◌, List, [], ◌∷◌, ◌++◌, Bool, true, false, map, refl, sym, ap, subst, ◌∙◌, append-nil}
+use Rattle.std.proofs.Common.{◌≡◌, ℕ, zero, suc, ◌≤◌, List, [], ◌∷◌, ◌++◌, Bool, true, false, map, refl, sym, ap, subst, ◌∙◌, append-nil}
+use Rattle.std.proofs.lemmas.List.Elements.{Contains-append_right}
 use Rattle.schema_defs.specs.Location.{Location}
 use Rattle.schema_defs.specs.Texts.{Relations}
 use Rattle.schema_defs.specs.Schema.{Schema, Document}
 use Rattle.entry_defs.specs.Entry.{Entry}
 use Rattle.entry_defs.specs.Table.{Table, TargetEntry}
 use Rattle.convert_defs.specs.Row.{Row}
-use Rattle.convert_defs.specs.Table.{row_of}
+use Rattle.convert_defs.specs.Table.{finding_of, row_of}
 use Rattle.convert_defs.specs.Values.{inner_of, listed_in}
 use Rattle.convert_defs.specs.Convert.{Handed, root_name}
 use Rattle.convert_defs.specs.RootReference.{refers_to_root}
-use Rattle.merge_walks.specs.Carried.{root_walk}
+use Rattle.merge_walks.specs.Carried.{root_walk, has_more_steps}
 use Rattle.convert_walks.specs.Spot.{Spot}
-use Rattle.convert_walks.specs.Tree.{Node, definition_target, definition_trees, document_tree, entry_at, root_entry, root_spot, root_targets, root_use, table_of, tree_at}
+use Rattle.convert_walks.specs.Tree.{Node, if_merged, below, definition_target, definition_trees, document_tree, entry_at, root_entry, root_spot, root_targets, root_use, table_of, tree_at}
 use Rattle.convert_walks.specs.Told.{faults_of, notes_in}
 use Rattle.row_merges.specs.Merges.{MergeD, merges_in}
 use Rattle.schema_tree.specs.Fault.{FaultD}
@@ -22,8 +23,10 @@ use Rattle.convert_trees.specs.Tables.{root_targets_of, root_use_of}
 use Rattle.convert_trees.specs.Unread.{At, first_kept, unread_by, unread_in_document, unread_listed, unread_of}
 use Rattle.convert_trees.specs.Keeping.{KeptD, ValuesD, with_unread}
 use Rattle.stated_walks.specs.Stated.{stated_in_document}
-use Rattle.convert_trees.specs.Told.{IsTold, Refuses, Begins, begins}
-use Rattle.convert_trees.proofs.Telling.{told_both, begins_first, begins_second, refuses_from, refuses_first, refuses_second}
+use Rattle.convert_trees.specs.Told.{places_of_nodes, IsTold, Refuses, Begins, begins}
+use Rattle.convert_trees.proofs.Ends.{first_place}
+use Rattle.convert_trees.proofs.Here.{trees, shallow, deep}
+use Rattle.convert_trees.proofs.Telling.{places_of_both, told_both, begins_first, begins_second, refuses_from, refuses_first, refuses_second}
 
 abbrev pub the_table : List TargetEntry → List Entry → Table
 the_table ts es = record { targets = ts; trees = es }
@@ -37,6 +40,21 @@ nothing : (us : List At) → None ≡ first_kept None us → us ≡ []
 nothing [] h = refl
 nothing (u ∷ us) h = absurd (cc)
 
+-- ---- a schema is one of its own tree, and so the root is one of the document's
+
+module _ (r : Relations) (d : Document) (most : ℕ) (o : Spot) (s : Schema) where
+  by_steps : (n : ℕ) (b : Bool) → has_more_steps most o.walk ≡ b → Contains (places_of_nodes (tree_at r d most (suc n) o s)) o.path
+  by_steps n true e = subst (λ (ts : List Node). Contains (places_of_nodes ts) o.path) (sym (deep r d most n o s e)) (first_place o.path o.path [] refl)
+  by_steps n false e =
+      subst (λ (ts : List Node). Contains (places_of_nodes ts) o.path) (sym (shallow r d most n o s e))
+      (first_place o.path o.path (places_of_nodes (below r d most n (trees r d most n o s) o s (finding_of r d s).branches (row_of r d s) (if_merged (row_of r d s)))) refl)
+
+  own_place : (n : ℕ) → Contains (places_of_nodes (tree_at r d most n o s)) o.path
+  own_place zero = first_place o.path o.path [] refl
+  own_place (suc n) = by_steps n (has_more_steps most o.walk) refl
+
+-- ---- merges that are left
+
 -- all that are left are those of the nodes
 pub begins_all : (left whole : List MergeD) → left ≡ whole → Begins left whole
 begins_all left whole e = begins [] (e ∙ sym (append-nil whole))
@@ -47,6 +65,11 @@ module _ (r : Relations) (d : Document) (most n : ℕ) where
 
   abbrev pub root_nodes : List Node
   root_nodes = tree_at r d most n (root_spot r d most n) d.root
+
+  pub root_place : Contains (places_of_nodes (document_tree r d most n)) []
+  root_place =
+      subst (λ (ls : List Location). Contains ls []) (sym (places_of_both definitions_told root_nodes))
+      (Contains-append_right (places_of_nodes definitions_told) (places_of_nodes root_nodes) [] (own_place r d most (root_spot r d most n) d.root n))
 
   pub whole_told : (j k l : KeptD) (r' : Relations) → r' ≡ r → IsTold r d most n definitions_told j k → IsTold r' d most n (tree_at r' d most n (root_spot r' d most n) d.root) k l → IsTold r d most n (document_tree r d most n) j l
   whole_told j k l r' e x y = told_both r d most n definitions_told root_nodes j k l x (subst (λ (r : Relations). IsTold r d most n (tree_at r d most n (root_spot r d most n) d.root) k l) e y)

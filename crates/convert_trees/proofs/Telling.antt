@@ -1,5 +1,7 @@
 -- What is told of nodes one after another.
 use Rattle.std.proofs.Common.{◌≡◌, ℕ, ◌≤◌, ◌⊎◌, inl, inr, List, [], ◌∷◌, ◌++◌, Bool, Option, Some, None, is_some, refl, sym, ap, subst, ◌∙◌, append_assoc, append-nil}
+use Rattle.std.proofs.lemmas.List.Elements.{Contains-append_left, Contains-append_right}
+use Rattle.schema_defs.specs.Location.{Location}
 use Rattle.schema_defs.specs.Texts.{Relations}
 use Rattle.schema_defs.specs.Schema.{Schema, Document}
 use Rattle.convert_defs.specs.Table.{row_of}
@@ -14,8 +16,8 @@ use Rattle.convert_trees.specs.Unread.{At, unread_of, unread_listed, first_kept,
 use Rattle.stated_walks.specs.Stated.{stated_at, stated_in}
 use Rattle.convert_trees.specs.Keeping.{KeptD, ValuesD, with_unread}
 use Rattle.convert_trees.specs.Told as told
-use Rattle.convert_trees.specs.Told.{AreFine, IsTold, TellsOf, Tells, Refuses, by_none, by_fault, Begins, begins}
-use Rattle.convert_trees.proofs.Ends.{none_from}
+use Rattle.convert_trees.specs.Told.{places_of_nodes, NoAnswer, AreFine, IsTold, TellsOf, Tells, Refuses, by_none, by_fault, Begins, begins}
+use Rattle.convert_trees.proofs.Ends.{none_among, none_from}
 
 -- ---- the first is kept
 
@@ -39,6 +41,24 @@ with_none v = λ i. record { known = v.known; unread = first_none v.unread i }
 
 with_both : (v : ValuesD) (us bs : List At) → with_unread bs (with_unread us v) ≡ with_unread (us ++ bs) v
 with_both v us bs = λ i. record { known = v.known; unread = first_both v.unread us bs i }
+
+-- ---- places of some nodes are among those of more
+
+pub places_of_both : (xs bs : List Node) → places_of_nodes (xs ++ bs) ≡ places_of_nodes xs ++ places_of_nodes bs
+places_of_both [] bs = refl
+places_of_both (a ∷ xs) bs = ap (λ ls. a.spot.path ∷ ls) (places_of_both xs bs)
+
+module _ (f : FaultD) (old new : ℕ) (xs bs : List Node) where
+  none_of_both : NoAnswer (places_of_nodes xs ++ places_of_nodes bs) old new f → NoAnswer (places_of_nodes (xs ++ bs)) old new f
+  none_of_both h = subst (λ (ls : List Location). NoAnswer ls old new f) (sym (places_of_both xs bs)) h
+
+  pub none_of_first : NoAnswer (places_of_nodes xs) old new f → NoAnswer (places_of_nodes (xs ++ bs)) old new f
+  none_of_first h =
+      none_of_both (none_among (places_of_nodes xs) (places_of_nodes xs ++ places_of_nodes bs) old new f (Contains-append_left (places_of_nodes xs) (places_of_nodes bs)) h)
+
+  none_of_second : NoAnswer (places_of_nodes bs) old new f → NoAnswer (places_of_nodes (xs ++ bs)) old new f
+  none_of_second h =
+      none_of_both (none_among (places_of_nodes bs) (places_of_nodes xs ++ places_of_nodes bs) old new f (Contains-append_right (places_of_nodes xs) (places_of_nodes bs)) h)
 
 -- ---- merges that are left
 
@@ -140,7 +160,7 @@ module _ (r : Relations) (d : Document) (most n : ℕ) where
     want_refuses a b ts e = by_none (told.no_memory e)
 
     pub refuses_from : (a b c : ℕ) (ts : List Node) → a ≤ b → Refuses r d most n b c ts f → Refuses r d most n a c ts f
-    refuses_from a b c ts h (by_none k) = by_none (none_from a b c f h k)
+    refuses_from a b c ts h (by_none k) = by_none (none_from (places_of_nodes ts) a b c f h k)
     refuses_from a b c ts h (by_fault t) = by_fault t
 
     -- a schema to which no step is left
@@ -150,11 +170,11 @@ module _ (r : Relations) (d : Document) (most n : ℕ) where
 
     module _ (old new : ℕ) where
       pub refuses_first : (xs bs : List Node) → Refuses r d most n old new xs f → Refuses r d most n old new (xs ++ bs) f
-      refuses_first xs bs (by_none h) = by_none h
+      refuses_first xs bs (by_none h) = by_none (none_of_first f old new xs bs h)
       refuses_first xs bs (by_fault t) = by_fault (tells_first xs bs t)
 
       pub refuses_second : (xs bs : List Node) → AreFine r d most n xs → Refuses r d most n old new bs f → Refuses r d most n old new (xs ++ bs) f
-      refuses_second xs bs e (by_none h) = by_none h
+      refuses_second xs bs e (by_none h) = by_none (none_of_second f old new xs bs h)
       refuses_second xs bs e (by_fault t) = by_fault (tells_second xs bs e t)
 
   -- ---- a part of a list is passed

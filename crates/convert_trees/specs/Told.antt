@@ -1,5 +1,5 @@
 -- What conversion tells of nodes of a conversion tree: their notes, where none of them has a fault, or else the first fault.
-use Rattle.std.specs.Prelude.{◌≡◌, ℕ, List, [], ◌∷◌, ◌++◌, Bool, true, false, Option, Some, None, if◌then◌else◌}
+use Rattle.std.specs.Prelude.{◌≡◌, ℕ, List, [], ◌∷◌, ◌++◌, map, Contains, Bool, true, false, Option, Some, None, if◌then◌else◌}
 use Rattle.run_io.specs.Bytes.{Rises}
 use Rattle.json_value.specs.Value.{Value, null, text}
 use Rattle.schema_defs.specs.Location.{Location}
@@ -19,7 +19,7 @@ use Rattle.schema_tree.specs.declared.fault.InvalidKind.TheVariants as invalid
 use Rattle.schema_tree.specs.declared.fault.UnsupportedKind.{UnsupportedKind}
 use Rattle.schema_tree.specs.declared.fault.UnsupportedKind.TheVariants as kind
 use Rattle.schema_tree.specs.Fault.{FaultD, memory, depth, places, bad_value, invalid_schema, unsupported, texts}
-use Rattle.merged_rows.specs.Told.{unmerged_kind}
+use Rattle.merge_faults.specs.Faults.{unmerged_kind}
 use Rattle.row_merges.specs.Merges.{MergeD, merges_in}
 use Rattle.convert_trees.specs.Unread.{unread_of, unread_listed}
 use Rattle.convert_trees.specs.Keeping.{KeptD, with_unread}
@@ -63,14 +63,14 @@ module _ (l : Location) (s : Schema) (f : Finding) where
   told_cause row.bad_pattern = invalid_schema l invalid.Pattern
   told_cause row.too_deep = depth (l ∷ [])
 
--- want of memory, or a failure of the judge of texts, whose count rose
-pub data NoAnswer (old new : ℕ) (told : FaultD) : Type 0 where
-  no_memory : told ≡ memory → NoAnswer old new told
-  failed : (m : Location) → told ≡ texts m → Rises old new → NoAnswer old new told
+-- want of memory, or a failure of the judge of texts, whose count rose, told at one of these places
+pub data NoAnswer (ls : List Location) (old new : ℕ) (told : FaultD) : Type 0 where
+  no_memory : told ≡ memory → NoAnswer ls old new told
+  failed : (m : Location) → Contains ls m → told ≡ texts m → Rises old new → NoAnswer ls old new told
 
 -- or what is told of the first of these causes
 pub data RefusesBy (l : Location) (s : Schema) (f : Finding) (old new : ℕ) (cs : List Cause) (told : FaultD) : Type 0 where
-  unanswered : NoAnswer old new told → RefusesBy l s f old new cs told
+  unanswered : NoAnswer (l ∷ []) old new told → RefusesBy l s f old new cs told
   by_cause : (c : Cause) (more : List Cause) → cs ≡ c ∷ more → told ≡ told_cause l s f c → RefusesBy l s f old new cs told
 
 -- want of memory, or what is told of a row that is refused
@@ -84,6 +84,10 @@ pub data TellsStated (ls : List Location) (told : FaultD) : Type 0 where
   by_default : (l : Location) (more : List Location) → ls ≡ l ∷ more → told ≡ unsupported l kind.NotYet → TellsStated ls told
 
 -- ---- nodes
+
+-- where they stand
+abbrev pub places_of_nodes : List Node → List Location
+places_of_nodes ts = map (λ t. t.spot.path) ts
 
 module _ (r : Relations) (d : Document) (most n : ℕ) where
   -- neither a fault nor a stated default
@@ -128,10 +132,15 @@ module _ (r : Relations) (d : Document) (most n : ℕ) where
     pub fine : AreFine before
     pub told : TellsOf at f
 
-  -- no answer, or the first fault
+  -- no answer, at the place of a schema of the tree, or the first fault
   pub data Refuses (old new : ℕ) (ts : List Node) (f : FaultD) : Type 0 where
-    by_none : NoAnswer old new f → Refuses old new ts f
+    by_none : NoAnswer (places_of_nodes ts) old new f → Refuses old new ts f
     by_fault : Tells ts f → Refuses old new ts f
+
+  -- the same of the parts of a schema, with no answer at its own place
+  pub data RefusesOf (l : Location) (old new : ℕ) (ts : List Node) (f : FaultD) : Type 0 where
+    at_schema : NoAnswer (l ∷ []) old new f → RefusesOf l old new ts f
+    at_parts : Refuses old new ts f → RefusesOf l old new ts f
 
 -- ---- the merges that are left
 

@@ -25,7 +25,7 @@ ghost use Rattle.row_merges.specs.Merges.{end_view, merge_of_row, merge_view, me
 ghost use Rattle.row_trees.specs.Build.{built};
 ghost use Rattle.convert_trees.specs.Keeping.{kept_view, with_before_if};
 ghost use Rattle.stated_walks.specs.Stated.{stated_parts};
-ghost use Rattle.convert_trees.specs.Told.{Begins, IsTold, IsToldOf, NoAnswer, Refuses};
+ghost use Rattle.convert_trees.specs.Told.{Begins, IsTold, IsToldOf, NoAnswer, Refuses, RefusesOf};
 ghost use Rattle.convert_trees.specs.Unread.{unread_of};
 
 use crate::faults::text_fault;
@@ -117,7 +117,7 @@ fn tree_of_row<'d, T: Texts>(
     texts: &mut T,
 ) -> Result<Tree<'d>, Fault>
     ensures answer { IfOk result (λ t. tree_view t ≡ built name.now (row_view (T.relations texts.old) row.now) (map tree_view trees.entry.items)) }
-    ensures refused { IfErr result (λ f. NoAnswer (T.faults texts.old) (T.faults texts.new) (fault_view f)) }
+    ensures refused { IfErr result (λ f. NoAnswer (path_by scope.now.start.now trail.now.items ∷ []) (T.faults texts.old) (T.faults texts.new) (fault_view f)) }
     ensures keeps { T.relations texts.new ≡ T.relations texts.old }
     ensures counts { T.faults texts.old ≤ T.faults texts.new }
 {
@@ -142,7 +142,7 @@ fn finished<'d, T: Texts>(
     ensures notes { OnOk result ((kept_view kept.new).notes ≡ (kept_view kept.old).notes) }
     ensures merges { OnOk result ((kept_view kept.new).merges ≡ (kept_view kept.old).merges) }
     ensures values { IfOk result (λ t. (kept_view kept.new).values ≡ with_before_if had (unread_of (T.relations texts.old) (kept_view kept.old).values.known (path_by scope.now.start.now trail.now.items) (row_view (T.relations texts.old) row.now) (tree_view t)) (kept_view kept.old).values) }
-    ensures refused { IfErr result (λ f. NoAnswer (T.faults texts.old) (T.faults texts.new) (fault_view f)) }
+    ensures refused { IfErr result (λ f. NoAnswer (path_by scope.now.start.now trail.now.items ∷ []) (T.faults texts.old) (T.faults texts.new) (fault_view f)) }
     ensures keeps { T.relations texts.new ≡ T.relations texts.old }
     ensures counts { T.faults texts.old ≤ T.faults texts.new }
 {
@@ -297,7 +297,7 @@ fn convert_row<'d, T: Texts>(
     requires { Begins (kept_view kept.old).merges (merges_in (parts_trees (T.relations texts.old) (document_seen scope.now.document.now) scope.now.depth (λ o s. tree_at (T.relations texts.old) (document_seen scope.now.document.now) scope.now.depth levels o s) (spot_of scope.now.start.now trail.now.items (option_map (λ n. n.now) handed)) (map branch_view finding.now.branches.items) (row_parts (row_view (T.relations texts.old) finding.now.row)))) }
     ensures entry { IfOk result (λ t. tree_view t ≡ built (named_by (option_map (λ n. n.now) handed.entry) (source_view source.now)) (row_view (T.relations texts.old) finding.now.row) (map (λ p. entry_at (T.relations texts.old) (document_seen scope.now.document.now) scope.now.depth levels (part_spot (spot_of scope.now.start.now trail.now.items (option_map (λ n. n.now) handed.entry)) (map branch_view finding.now.branches.items) p) (part_schema p)) (row_parts (row_view (T.relations texts.old) finding.now.row)))) }
     ensures told { IfOk result (λ t. IsToldOf (T.relations texts.old) (document_seen scope.now.document.now) scope.now.depth levels (path_by scope.now.start.now trail.now.items) (row_view (T.relations texts.old) finding.now.row) (tree_view t) (parts_trees (T.relations texts.old) (document_seen scope.now.document.now) scope.now.depth (λ o s. tree_at (T.relations texts.old) (document_seen scope.now.document.now) scope.now.depth levels o s) (spot_of scope.now.start.now trail.now.items (option_map (λ n. n.now) handed.entry)) (map branch_view finding.now.branches.items) (row_parts (row_view (T.relations texts.old) finding.now.row))) (kept_view kept.old) (kept_view kept.new)) }
-    ensures refused { IfErr result (λ f. Refuses (T.relations texts.old) (document_seen scope.now.document.now) scope.now.depth levels (T.faults texts.old) (T.faults texts.new) (parts_trees (T.relations texts.old) (document_seen scope.now.document.now) scope.now.depth (λ o s. tree_at (T.relations texts.old) (document_seen scope.now.document.now) scope.now.depth levels o s) (spot_of scope.now.start.now trail.now.items (option_map (λ n. n.now) handed.entry)) (map branch_view finding.now.branches.items) (row_parts (row_view (T.relations texts.old) finding.now.row))) (fault_view f)) }
+    ensures refused { IfErr result (λ f. RefusesOf (T.relations texts.old) (document_seen scope.now.document.now) scope.now.depth levels (path_by scope.now.start.now trail.now.items) (T.faults texts.old) (T.faults texts.new) (parts_trees (T.relations texts.old) (document_seen scope.now.document.now) scope.now.depth (λ o s. tree_at (T.relations texts.old) (document_seen scope.now.document.now) scope.now.depth levels o s) (spot_of scope.now.start.now trail.now.items (option_map (λ n. n.now) handed.entry)) (map branch_view finding.now.branches.items) (row_parts (row_view (T.relations texts.old) finding.now.row))) (fault_view f)) }
     ensures keeps { T.relations texts.new ≡ T.relations texts.old }
     ensures counts { T.faults texts.old ≤ T.faults texts.new }
 {

@@ -1,11 +1,12 @@
 //! Faults at their places.
-ghost use Rattle.std.specs.Prelude.{◌≡◌, ℕ, ◌⊎◌, map, option_map};
+ghost use Rattle.std.specs.Prelude.{◌≡◌, ℕ, ◌⊎◌, [], ◌∷◌, map, option_map};
 ghost use Rattle.run_io.specs.Bytes.{Rises};
 ghost use Rattle.schema_types.specs.View.{kept_view, object_view, schema_view};
 ghost use Rattle.schema_tree.specs.Fault.{bad_value as bad_value_at, fault_view, memory, unsupported as unsupported_at};
 ghost use Rattle.convert_defs.specs.Row.{plainly, refused_row};
 ghost use Rattle.row_types.specs.Given.{given_values_view, source_view};
 ghost use Rattle.row_types.specs.View.{cause_view};
+ghost use Rattle.merged_rows.specs.Starts.{path_by};
 ghost use Rattle.convert_trees.specs.Told.{is_odd as is_odd_value, first_odd as first_odd_of, odd_in, odd_or, odd_value as odd_value_of, told_cause, NoAnswer};
 
 use crate::scope::Scope;
@@ -115,10 +116,10 @@ fn unsupported(path: Location, kind: UnsupportedKind) -> Fault
     Fault::Unsupported { path, kind }
 }
 
-/// What is told where the judge of texts gave no answer.
-#[tactic(auto, using(crate::proofs::Ends::want, crate::proofs::Ends::no_texts))]
+/// What is told where the judge of texts gave no answer, at the place of the schema that asked it.
+#[tactic(auto, using(crate::proofs::Ends::want))]
 pub fn text_fault(scope: &Scope<'_, '_>, trail: &Vec<Steps<'_>>, fault: TextFault) -> Fault
-    ensures { (old : ℕ) (new : ℕ) → (fault ≡ TextFault.Failed → Rises old new) → NoAnswer old new (fault_view result) }
+    ensures { (old : ℕ) (new : ℕ) → (fault ≡ TextFault.Failed → Rises old new) → NoAnswer (path_by scope.now.start.now trail.now.items ∷ []) old new (fault_view result) }
 {
     match fault {
         TextFault::Memory => Fault::Memory,

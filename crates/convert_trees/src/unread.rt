@@ -1,5 +1,5 @@
 //! Listed values that aren't read.
-ghost use Rattle.std.specs.Prelude.{◌≡◌, ◌≤◌, ℕ, List, Some, IfErr, IfOk, OnOk, map, option_map};
+ghost use Rattle.std.specs.Prelude.{◌≡◌, ◌≤◌, ℕ, List, [], ◌∷◌, Some, IfErr, IfOk, OnOk, map, option_map};
 ghost use Rattle.schema_defs.specs.Texts.{Relations};
 ghost use Rattle.schema_types.specs.View.{kept_view as value_kept};
 ghost use Rattle.schema_tree.specs.Fault.{fault_view, memory};
@@ -68,7 +68,7 @@ fn unread_in_table<'d, T: Texts>(
     tree: &Tree<'d>,
 ) -> Result<Option<&'d Value>, Fault>
     ensures found { IfOk result (λ o. option_map (λ v. value_kept v.now) o ≡ first_value (unread_by_entry (T.relations texts.old) (Some (table_view table.now)) (tree_view tree.now) (listed_by (rule_view rule.entry)))) }
-    ensures refused { IfErr result (λ f. NoAnswer (T.faults texts.old) (T.faults texts.new) (fault_view f)) }
+    ensures refused { IfErr result (λ f. NoAnswer (path_by scope.now.start.now trail.now.items ∷ []) (T.faults texts.old) (T.faults texts.new) (fault_view f)) }
     ensures keeps { T.relations texts.new ≡ T.relations texts.old }
     ensures counts { T.faults texts.old ≤ T.faults texts.new }
 {
@@ -88,7 +88,7 @@ fn unread_in<'d, T: Texts>(
     tree: &Tree<'d>,
 ) -> Result<Option<&'d Value>, Fault>
     ensures found { IfOk result (λ o. option_map (λ v. value_kept v.now) o ≡ first_value (unread_by_entry (T.relations texts.old) (values_view values.now).known (tree_view tree.now) (listed_by (rule_view rule.entry)))) }
-    ensures refused { IfErr result (λ f. NoAnswer (T.faults texts.old) (T.faults texts.new) (fault_view f)) }
+    ensures refused { IfErr result (λ f. NoAnswer (path_by scope.now.start.now trail.now.items ∷ []) (T.faults texts.old) (T.faults texts.new) (fault_view f)) }
     ensures keeps { T.relations texts.new ≡ T.relations texts.old }
     ensures counts { T.faults texts.old ≤ T.faults texts.new }
 {
@@ -108,7 +108,7 @@ fn unread_by<'d, T: Texts>(
     trees: &VecDeque<Tree<'d>>,
 ) -> Result<Option<&'d Value>, Fault>
     ensures found { IfOk result (λ o. option_map (λ v. value_kept v.now) o ≡ first_value (unread_by_entry (T.relations texts.old) (values_view values.now).known (first_of (map tree_view trees.now.items)) (listed_by (rule_view rule.entry)))) }
-    ensures refused { IfErr result (λ f. NoAnswer (T.faults texts.old) (T.faults texts.new) (fault_view f)) }
+    ensures refused { IfErr result (λ f. NoAnswer (path_by scope.now.start.now trail.now.items ∷ []) (T.faults texts.old) (T.faults texts.new) (fault_view f)) }
     ensures keeps { T.relations texts.new ≡ T.relations texts.old }
     ensures counts { T.faults texts.old ≤ T.faults texts.new }
 {
@@ -128,7 +128,7 @@ fn unread_value<'d, T: Texts>(
     trees: &VecDeque<Tree<'d>>,
 ) -> Result<Option<&'d Value>, Fault>
     ensures found { IfOk result (λ o. (name : List ℕ) → option_map (λ v. value_kept v.now) o ≡ first_value (unread_values (T.relations texts.old) (values_view values.now).known (row_view (T.relations texts.old) row.now) (built name (row_view (T.relations texts.old) row.now) (map tree_view trees.now.items)))) }
-    ensures refused { IfErr result (λ f. NoAnswer (T.faults texts.old) (T.faults texts.new) (fault_view f)) }
+    ensures refused { IfErr result (λ f. NoAnswer (path_by scope.now.start.now trail.now.items ∷ []) (T.faults texts.old) (T.faults texts.new) (fault_view f)) }
     ensures keeps { T.relations texts.new ≡ T.relations texts.old }
     ensures counts { T.faults texts.old ≤ T.faults texts.new }
 {
@@ -151,7 +151,7 @@ fn keep_unread<'d, T: Texts>(
     ensures notes { OnOk result ((kept_view kept.new).notes ≡ (kept_view kept.old).notes) }
     ensures merges { OnOk result ((kept_view kept.new).merges ≡ (kept_view kept.old).merges) }
     ensures values { OnOk result ((name : List ℕ) → (kept_view kept.new).values ≡ with_before (unread_of (T.relations texts.old) (kept_view kept.old).values.known (path_by scope.now.start.now trail.now.items) (row_view (T.relations texts.old) row.now) (built name (row_view (T.relations texts.old) row.now) (map tree_view trees.now.items))) (kept_view kept.old).values) }
-    ensures refused { IfErr result (λ f. NoAnswer (T.faults texts.old) (T.faults texts.new) (fault_view f)) }
+    ensures refused { IfErr result (λ f. NoAnswer (path_by scope.now.start.now trail.now.items ∷ []) (T.faults texts.old) (T.faults texts.new) (fault_view f)) }
     ensures keeps { T.relations texts.new ≡ T.relations texts.old }
     ensures counts { T.faults texts.old ≤ T.faults texts.new }
 {
@@ -178,7 +178,7 @@ pub fn keep_unless<'d, T: Texts>(
     ensures notes { OnOk result ((kept_view kept.new).notes ≡ (kept_view kept.old).notes) }
     ensures merges { OnOk result ((kept_view kept.new).merges ≡ (kept_view kept.old).merges) }
     ensures values { OnOk result ((name : List ℕ) → (kept_view kept.new).values ≡ with_before_if had (unread_of (T.relations texts.old) (kept_view kept.old).values.known (path_by scope.now.start.now trail.now.items) (row_view (T.relations texts.old) row.now) (built name (row_view (T.relations texts.old) row.now) (map tree_view trees.now.items))) (kept_view kept.old).values) }
-    ensures refused { IfErr result (λ f. NoAnswer (T.faults texts.old) (T.faults texts.new) (fault_view f)) }
+    ensures refused { IfErr result (λ f. NoAnswer (path_by scope.now.start.now trail.now.items ∷ []) (T.faults texts.old) (T.faults texts.new) (fault_view f)) }
     ensures keeps { T.relations texts.new ≡ T.relations texts.old }
     ensures counts { T.faults texts.old ≤ T.faults texts.new }
 {

@@ -19,7 +19,7 @@ use Rattle.row_types.specs.View.{branch_view, finding_view, part_view, row_view}
 use Rattle.row_trees.specs.Build.{built}
 use Rattle.convert_trees.specs.Keeping.{kept_view}
 use Rattle.row_merges.specs.Listed.{listed_view}
-use Rattle.convert_trees.specs.Told.{Begins, IsTold, IsToldOf, Refuses, by_none}
+use Rattle.convert_trees.specs.Told.{Begins, IsTold, IsToldOf, Refuses, RefusesOf, at_parts, at_schema}
 use Rattle.convert_trees.proofs.Ends.{if_err, none_from}
 use Rattle.convert_trees.proofs.Here.{begins_on, deep_on, entry_on, parts_here, plain_begins, plain_entry, refuses_on, told_here, told_on}
 use Rattle.convert_trees.proofs.Merged.{merge_refuses, merging, next_is, standing_begins, standing_entry_is, standing_refuses, standing_told}
@@ -162,7 +162,7 @@ convert_plain-returns-in_err-tree-clause-refused g t c =
     (refuses_from r d c.args.scope.now.depth c.args.levels _ _ _ _ _ c.in_ok-checked.ensures.counts
     (parts_here r d c.args.scope.now.depth c.args.levels o s (finding_view r c.args.finding.now) (c.requires.finding r) c.requires.walk (c.requires.plain r)
     (c.in_ok-checked.ensures.fine d) c.in_ok-checked.ensures.unstated (c.in_ok-checked.ensures.branches r d h) _ _ _
-    (subst (λ (r : Relations). Refuses r d c.args.scope.now.depth c.args.levels (g.T.Texts.faults c.checked.new.texts) (g.T.Texts.faults c.convert_row.new.texts) (all_nodes r d c.args.scope.now.depth c.args.levels o ms (row_parts (row_view r row))) (fault_view c.in_err-tree.field-0.0))
+    (subst (λ (r : Relations). RefusesOf r d c.args.scope.now.depth c.args.levels o.path (g.T.Texts.faults c.checked.new.texts) (g.T.Texts.faults c.convert_row.new.texts) (all_nodes r d c.args.scope.now.depth c.args.levels o ms (row_parts (row_view r row))) (fault_view c.in_err-tree.field-0.0))
     c.in_ok-checked.ensures.keeps c.in_err-tree.ensures.refused)))
 
 -- ---- the row that was checked
@@ -204,7 +204,7 @@ convert_row-returns-clause-told g t c =
 
 pub convert_row-returns-in_err-parts-clause-refused : goal.convert_row-returns-in_err-parts-clause-refused
 convert_row-returns-in_err-parts-clause-refused g t c =
-    if_err c.from_residual.result c.in_err-parts.field-0.0 _ c.from_residual.ensures.1 (want_refuses _ _ _ _ _ _ _ _ c.in_err-parts.ensures.memory)
+    if_err c.from_residual.result c.in_err-parts.field-0.0 _ c.from_residual.ensures.1 (at_parts (want_refuses _ _ _ _ _ _ _ _ c.in_err-parts.ensures.memory))
 
 pub convert_row-returns-in_err-trees-clause-refused : goal.convert_row-returns-in_err-trees-clause-refused
 convert_row-returns-in_err-trees-clause-refused g t c =
@@ -214,13 +214,13 @@ convert_row-returns-in_err-trees-clause-refused g t c =
     let o = spot_of c.args.scope.now.start.now c.args.trail.now.items h in
     let ms = map branch_view c.args.finding.now.branches.items in
     if_err c.from_residual-in_err-trees.result c.in_err-trees.field-0.0 _ c.from_residual-in_err-trees.ensures.1
-    (subst (λ (ps : List Part). Refuses r d c.args.scope.now.depth c.args.levels (g.T.Texts.faults c.args.texts.now) (g.T.Texts.faults c.convert_parts.new.texts) (all_nodes r d c.args.scope.now.depth c.args.levels o ms ps) (fault_view c.in_err-trees.field-0.0))
-    (ap listed_view c.deref.ensures.value ∙ c.in_ok-parts.ensures.parts r) c.in_err-trees.ensures.refused)
+    (at_parts (subst (λ (ps : List Part). Refuses r d c.args.scope.now.depth c.args.levels (g.T.Texts.faults c.args.texts.now) (g.T.Texts.faults c.convert_parts.new.texts) (all_nodes r d c.args.scope.now.depth c.args.levels o ms ps) (fault_view c.in_err-trees.field-0.0))
+    (ap listed_view c.deref.ensures.value ∙ c.in_ok-parts.ensures.parts r) c.in_err-trees.ensures.refused))
 
 pub convert_row-returns-in_err-tree-clause-refused : goal.convert_row-returns-in_err-tree-clause-refused
 convert_row-returns-in_err-tree-clause-refused g t c =
     if_err c.from_residual-in_err-tree.result c.in_err-tree.field-0.0 _ c.from_residual-in_err-tree.ensures.1
-    (by_none (none_from _ _ _ _ c.in_ok-trees.ensures.counts c.in_err-tree.ensures.refused))
+    (at_schema (none_from _ _ _ _ _ c.in_ok-trees.ensures.counts c.in_err-tree.ensures.refused))
 
 -- ---- one part after another
 

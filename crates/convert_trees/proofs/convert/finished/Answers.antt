@@ -20,4 +20,4 @@ returns-clause-values g c =
 pub returns-in_err-tree-clause-refused : goal.returns-in_err-tree-clause-refused
 returns-in_err-tree-clause-refused g c =
     if_err c.from_residual-in_err-tree.result c.in_err-tree.field-0.0 _ c.from_residual-in_err-tree.ensures.1
-    (none_from _ _ _ _ c.in_ok-keep_unless.ensures.counts c.in_err-tree.ensures.refused)
+    (none_from _ _ _ _ _ c.in_ok-keep_unless.ensures.counts c.in_err-tree.ensures.refused)
