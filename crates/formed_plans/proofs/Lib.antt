@@ -1,4 +1,4 @@
-mod RowForm
+mod LeafForm
 pub mod NamedForm
 mod MadeForm
 pub mod Plans

@@ -7,7 +7,8 @@ use Rattle.convert_defs.specs.Row.{Part, FieldRow, OutsideRow, VariantBody, unit
 use Rattle.convert_defs.specs.Convert.{same_flag, unit_in, has_two_places, is_without_rest, content_of, labeled, nullable_entry, alike_fields, alike_entries, row_fields, row_entries, outside_fields, is_closed, body_content, row_variants, entry_of, as_item}
 use Rattle.entry_space.proofs.Keys.{second-true, both-true}
 use Rattle.space_trees.specs.Formed.{has_place, has_field, rest_is_wanted, has_no_rest, is_formed_by, are_formed_by, is_formed_shape_by, are_formed_fields_by, are_formed_variants_by, is_formed_contents_by}
-use Rattle.formed_plans.proofs.RowForm.{RowFormed}
+use Rattle.stated_walks.proofs.Leaves.{HasLeaf}
+use Rattle.formed_plans.proofs.LeafForm.{leaf-formed}
 
 abbrev pub Fine : Entry → Type 0
 Fine e = is_formed_by rest_is_wanted e ≡ true
@@ -148,8 +149,8 @@ module _ (convert : Part → Entry) (fine : (p : Part) → Fine (convert p)) whe
   variants-fine tag closed [] = refl
   variants-fine tag closed (w ∷ ws) = both-true _ _ (body-fine tag closed w.body) (variants-fine tag closed ws)
 
-  pub row-fine : (name : List ℕ) (w : Row) → RowFormed w → Fine (entry_of convert name w)
-  row-fine name (leaf_row e) h = labeled-fine name e h
+  pub row-fine : (name : List ℕ) (w : Row) → HasLeaf w → Fine (entry_of convert name w)
+  row-fine name (leaf_row e) h = labeled-fine name e (leaf-formed e h)
   row-fine name (as_it_is_row p) h = fine p
   row-fine name (option_row p) h = fine p
   row-fine name (ruled_row p u) h = fine p

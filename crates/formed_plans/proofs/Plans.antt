@@ -12,7 +12,7 @@ use Rattle.convert_walks.specs.Tree.{Standing, instead, if_merged, standing_entr
 use Rattle.conversion_laws.proofs.Targets.{body_entry}
 use Rattle.space_trees.specs.Formed.{rest_is_wanted, is_formed_shape_by}
 use Rattle.formed_plans.proofs.NamedForm.{IsWanted, table-named}
-use Rattle.formed_plans.proofs.RowForm.{finding-formed}
+use Rattle.stated_walks.proofs.Leaves.{row_has_leaf}
 use Rattle.formed_plans.proofs.MadeForm.{Fine, row-fine, item-fine}
 use Rattle.stated_walks.proofs.Tables.{all-trees, all-items}
 use Rattle.formed_plans.specs.Laws.{PlansAreFormed}
@@ -30,7 +30,7 @@ module _ (r : Relations) (d : Document) (most : ℕ) where
   entry-of-row n rec o s (Some ps) = standing-fine n rec (instead o s (merged_at d most n o s ps))
   entry-of-row n rec o s None =
       let met : Branches = (finding_of r d s).branches in
-      row-fine (λ p. entry_at r d most n (part_spot o met p) (part_schema p)) (λ p. rec (part_spot o met p) (part_schema p)) (named_by o.handed s) (row_of r d s) (finding-formed r d s)
+      row-fine (λ p. entry_at r d most n (part_spot o met p) (part_schema p)) (λ p. rec (part_spot o met p) (part_schema p)) (named_by o.handed s) (row_of r d s) (row_has_leaf r d s)
 
   pub entry-fine : (n : ℕ) → AllFine n
   entry-fine zero o s = refl
