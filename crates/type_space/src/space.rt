@@ -6,7 +6,7 @@ ghost use Rattle.schema_tree.specs.Document.{view as document_seen};
 ghost use Rattle.schema_tree.specs.Fault.{FaultD, fault_view};
 ghost use Rattle.convert_walks.specs.Told.{ordered};
 ghost use Rattle.convert_trees.specs.Told.{AreFine, Refuses};
-ghost use Rattle.row_merges.specs.Levels.{most_levels};
+ghost use Rattle.typify_convert.specs.Levels.{most_levels};
 ghost use Rattle.entry_defs.specs.Space.{entry_at};
 ghost use Rattle.entry_types.specs.View.{id_view, entry_view};
 ghost use Rattle.entry_space.specs.Keys.{same_key};
@@ -26,10 +26,9 @@ use crate::plan::empty_plan;
 use crate::refusing::{check, keep};
 use crate::schema::add_schema;
 use entry_space::{TypeEntries, TypeEntry, TypeId};
-use row_merges::levels;
 use schema_tree::{Document, Fault, Location, Texts};
 use std::alloc::Global;
-use typify_convert::Emitted;
+use typify_convert::{Emitted, levels};
 
 /// A space of types for the schemas of a document. It gives its entries ids in the order in which they come: first those of the items
 /// that references lead to, and then those of each schema that is added. Items get their names in that order too. A space that

@@ -58,7 +58,7 @@ module _ (r : Relations) (d : Document) (most n : ℕ) where
 
   pub refused_all : (old new : ℕ) (f : FaultD) → Refuses r d most n old new (document_tree r d most n) f → IsRefusal r d most n old new f
   refused_all old new f (by_none (no_memory e)) = inl e
-  refused_all old new f (by_none (failed l e x)) = inr (inl (l, e, x))
+  refused_all old new f (by_none (failed l c e x)) = inr (inl (l, c, e, x))
   refused_all old new f (by_fault t) = inr (inr (inl t))
 
   pub without_memory : (old new : ℕ) (f : FaultD) → f ≡ memory → IsRefusal r d most n old new f

@@ -1,4 +1,5 @@
 pub mod Note
 pub mod Emitted
+pub mod Levels
 pub mod Unread
 pub mod Refused

@@ -1,5 +1,5 @@
 -- Why a document isn't converted. A walk has at most `most` steps, and there are n levels.
-use Rattle.std.specs.Prelude.{◌≡◌, ◌⊎◌, ℕ, List, [], ◌∷◌}
+use Rattle.std.specs.Prelude.{◌≡◌, ◌⊎◌, ℕ, List, [], ◌∷◌, Contains}
 use Rattle.run_io.specs.Bytes.{Rises}
 use Rattle.schema_defs.specs.Location.{Location}
 use Rattle.schema_defs.specs.Texts.{Relations}
@@ -7,7 +7,7 @@ use Rattle.schema_defs.specs.Schema.{Document}
 use Rattle.schema_tree.specs.Fault.{FaultD, memory, texts, invalid_value}
 use Rattle.convert_walks.specs.Told.{faults_of}
 use Rattle.convert_walks.specs.Tree.{document_tree}
-use Rattle.convert_trees.specs.Told.{Tells}
+use Rattle.convert_trees.specs.Told.{places_of_nodes, Tells}
 use Rattle.convert_trees.specs.Unread.{At, unread_in_document}
 use Rattle.stated_walks.specs.Stated.{stated_in_document}
 
@@ -23,9 +23,9 @@ module _ (r : Relations) (d : Document) (most n : ℕ) where
   abbrev pub IsCause : FaultD → Type 0
   IsCause f = IsFirst f ⊎ ((faults_of r d most n ≡ []) × (stated_in_document r d most n ≡ []) × IsUnread f)
 
-  -- a failure of the judge of texts, whose count rose
+  -- a failure of the judge of texts, whose count rose, told at the place of one of its schemas
   abbrev pub IsFailure : ℕ → ℕ → FaultD → Type 0
-  IsFailure old new f = (l : Location) × (f ≡ texts l) × Rises old new
+  IsFailure old new f = (l : Location) × Contains (places_of_nodes (document_tree r d most n)) l × (f ≡ texts l) × Rises old new
 
   -- want of memory, a failure of the judge of texts, or a cause
   abbrev pub IsRefusal : ℕ → ℕ → FaultD → Type 0

@@ -11,7 +11,6 @@ ghost use Rattle.schema_defs.specs.Texts.{Relations};
 ghost use Rattle.schema_tree.specs.Fault.{memory};
 ghost use Rattle.convert_walks.specs.Told.{faults_of, notes_of, ordered};
 ghost use Rattle.convert_walks.specs.Tree.{document_tree};
-ghost use Rattle.row_merges.specs.Levels.{most_levels};
 ghost use Rattle.row_merges.specs.Merges.{merges_in, merges_view};
 ghost use Rattle.document_laws.specs.Laws.{WasRead};
 ghost use Rattle.convert_trees.specs.Unread.{unread_in_document};
@@ -21,9 +20,11 @@ ghost use Rattle.note_order.specs.Notes.{notes_view};
 ghost use Rattle.space_trees.specs.Formed.{IsFormed};
 ghost use Rattle.typify_convert.specs.Note.{note_of};
 ghost use Rattle.typify_convert.specs.Emitted.{emission_of, emitted_view};
+ghost use Rattle.typify_convert.specs.Levels.{most_levels};
 ghost use Rattle.typify_convert.specs.Refused.{IsRefusal};
 
 use crate::checking::check_read;
+use crate::nesting::levels;
 use crate::note::Note;
 use crate::noting::notes_of;
 use convert_trees::table_of;
@@ -31,7 +32,7 @@ use entry_trees::TreeTable;
 use formed_plans::laws::plans_are_formed;
 use merged_documents::laws::read_documents_are_planned;
 use note_order::{PlacedNote, ordered_notes};
-use row_merges::{Merge, levels, merges_of};
+use row_merges::{Merge, merges_of};
 use schema_tree::{Conversions, Document, Fault, Texts};
 use space_emission::emit;
 use space_trees::space_of;
@@ -126,7 +127,8 @@ fn converted_within<T: Texts>(
 /// Refused is the first fault in the order of conversion: the definitions by name, then the root, each schema before its
 /// parts. Where a schema has no fault itself, but an optional property of it states a default, the first of them is told at its place as
 /// `Unsupported` of kind `NotYet`. Then the first listed value, in the same order, that the type of its schema's other keywords doesn't read
-/// (`InvalidValue`). `Texts` comes where the judge of texts failed, `Memory` where memory runs out or too many schemas stand in one another.
+/// (`InvalidValue`). `Texts` comes where the judge of texts failed, at the schema that asked it, `Memory` where memory runs out or too many schemas
+/// stand in one another.
 pub fn converted<T: Texts>(
     alloc: Global,
     document: &Document,

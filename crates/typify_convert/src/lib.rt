@@ -4,9 +4,11 @@
 
 mod checking;
 mod conversion;
+mod nesting;
 mod note;
 mod noting;
 
 pub use conversion::{Emitted, converted};
+pub use nesting::levels;
 pub use note::{Note, NoteKind, Way};
 pub use noting::notes_of;

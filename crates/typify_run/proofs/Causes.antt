@@ -20,9 +20,10 @@ use Rattle.schema_tree.specs.Fault.{FaultD, fault_view, memory, malformed, missi
 use Rattle.schema_tree.specs.Numbers.{are_i64, holds_i64_alone, wide_place, IsWideAt, HasWideNumber}
 use Rattle.schema_tree.proofs.WidePlaces.{wide_exact}
 use Rattle.convert_walks.specs.Told.{faults_of}
-use Rattle.row_merges.specs.Levels.{most_levels}
+use Rattle.typify_convert.specs.Levels.{most_levels}
 use Rattle.typify_convert.proofs.Firsts.{first_is_one}
 use Rattle.convert_trees.specs.Unread.{unread_in_document}
+use Rattle.convert_trees.proofs.Roots.{root_place}
 use Rattle.stated_walks.specs.Stated.{stated_in_document}
 use Rattle.typify_convert.specs.Refused as convert
 use Rattle.typify_run.specs.Verdicts.{IsUnjudged}
@@ -36,10 +37,10 @@ rises_later : (a b c : ℕ) → a ≤ b → Rises b c → Rises a c
 rises_later a b c h (inl k) = inl (omega (arith, h, k))
 rises_later a b c h (inr k) = inr k
 
--- a judge of texts that failed at a value
+-- a judge of texts that failed at a value, which is told at the root
 pub unjudged_refused : (r : Relations) (d : Document) (most before between after : ℕ) (f : FaultD) → before ≤ between → IsUnjudged between after f → IsUnreported r d most before after f
 unjudged_refused r d most before between after f h (inl m) = inl m
-unjudged_refused r d most before between after f h (inr u) = inr (inl ([], u.0, rises_later before between after h u.1))
+unjudged_refused r d most before between after f h (inr u) = inr (inl ([], root_place r d most most_levels, u.0, rises_later before between after h u.1))
 
 module _ (r : Relations) (most before after : ℕ) (schema : Value) (ds : List Data) (f : FaultD) where
   pub wide_refused : (f ≡ memory) ⊎ HasWideNumber ds f → IsRefusal r most before after schema ds f
@@ -52,7 +53,7 @@ module _ (r : Relations) (most before after : ℕ) (schema : Value) (ds : List D
 
   pub unreported_refused : (d : Document) → are_i64 ds ≡ true → IsReadAs Strict schema d → IsUnreported r d most before after f → IsRefusal r most before after schema ds f
   unreported_refused d e read (inl m) = inl m
-  unreported_refused d e read (inr (inl t)) = inr (inl t)
+  unreported_refused d e read (inr (inl t)) = inr (inl (e, (d, read, t)))
   unreported_refused d e read (inr (inr c)) = inr (inr (inr (e, inr (d, read, c))))
 
 -- what is said of the fault that a step gives is said where it leaves

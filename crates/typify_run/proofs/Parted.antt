@@ -8,7 +8,7 @@ use Rattle.schema_tree.specs.declared.fault.Fault.{Fault}
 use Rattle.run_input.specs.Input.{Parts}
 use Rattle.typify_run.specs.Call.{Call}
 use Rattle.typify_run.specs.Headline.{IsReportOf}
-use Rattle.typify_run.specs.Examine.{IsCause, IsEmission, IsRefusal, is_examined}
+use Rattle.typify_run.specs.Examine.{IsCause, IsEmission, IsRefusal, IsTextsFault, is_examined}
 use Rattle.typify_run.specs.Outcome.{IsCaused, IsReported, values_of}
 use Rattle.typify_run.specs.declared.report.Report.{Report}
 
@@ -23,7 +23,11 @@ module _ (c : Call) (schema : Data) (values : List Data) (parts : Parts) (same :
 
   pub caused_of : (f : Fault) → (fault_view f ≡ memory → ⊥) → IsRefusal c.texts c.depth c.before c.after (value_of schema) values (fault_view f) → IsCaused c parts f
   caused_of f other (inl m) = absurd (other m)
-  caused_of f other (inr (inl t)) = (other, inl t)
+  caused_of f other (inr (inl t)) = (
+    other,
+    inl (subst (λ (d : Data). IsTextsFault c.texts c.depth c.before c.after (value_of d) (values_of c.command parts) (fault_view f)) (sym same)
+        (subst (λ (ds : List Data). IsTextsFault c.texts c.depth c.before c.after (value_of schema) ds (fault_view f)) (sym listed) t)),
+  )
   caused_of f other (inr (inr h)) = (
     other,
     inr (subst (λ (d : Data). IsCause c.texts c.depth (value_of d) (values_of c.command parts) (fault_view f)) (sym same)

@@ -28,7 +28,7 @@ use Rattle.convert_defs.specs.Laws.{Keeps, same_way}
 use Rattle.convert_walks.specs.Told.{Note, notes_of}
 use Rattle.merging_laws.specs.Conversion.{Free}
 use Rattle.document_laws.specs.Laws.{WasRead}
-use Rattle.row_merges.specs.Levels.{most_levels}
+use Rattle.typify_convert.specs.Levels.{most_levels}
 use Rattle.merged_documents.specs.Laws.{plan_of}
 use Rattle.merged_documents.proofs.Shaped.{read_plans_are_emittable}
 use Rattle.merged_documents.proofs.Composed.{documents_mean_items}

@@ -1,18 +1,16 @@
 -- What is examined, why a schema and values are refused, and what a report is made of.
 use Rattle.std.specs.Prelude.{◌≡◌, ◌&&◌, ◌⊎◌, ℕ, List, [], ◌∷◌, map, Bool, true, false, Option, Some, None}
-use Rattle.run_io.specs.Bytes.{Rises}
 use Rattle.serde_json.specs.Data.{Data}
 use Rattle.json_value.specs.Value.{Value}
 use Rattle.schema_defs.specs.declared.Setting.TheVariants.{Strict}
-use Rattle.schema_defs.specs.Location.{Location}
 use Rattle.schema_defs.specs.Texts.{Relations}
 use Rattle.schema_defs.specs.Schema.{Document}
 use Rattle.schema_defs.specs.Read.{document_of}
 use Rattle.schema_tree.specs.Numbers.{are_i64, HasWideNumber}
 use Rattle.schema_tree.specs.Document.{IsReadAs, HasFault}
-use Rattle.schema_tree.specs.Fault.{FaultD, memory, texts}
+use Rattle.schema_tree.specs.Fault.{FaultD, memory}
 use Rattle.convert_walks.specs.Told.{faults_of, notes_of}
-use Rattle.row_merges.specs.Levels.{most_levels}
+use Rattle.typify_convert.specs.Levels.{most_levels}
 use Rattle.typify_convert.specs.Note.{note_of}
 use Rattle.typify_convert.specs.Emitted.{emission_of}
 use Rattle.convert_trees.specs.Unread.{unread_in_document}
@@ -48,13 +46,13 @@ IsUnconverted r depth schema f = (d : Document) × IsReadAs Strict schema d × c
 abbrev pub IsCause : Relations → ℕ → Value → List Data → FaultD → Type 0
 IsCause r depth schema values f = HasWideNumber values f ⊎ ((are_i64 values ≡ true) × (HasFault schema f ⊎ IsUnconverted r depth schema f))
 
--- a failure of the judge of texts, whose count rose
-abbrev pub IsTextsFault : ℕ → ℕ → FaultD → Type 0
-IsTextsFault before after f = (l : Location) × (f ≡ texts l) × Rises before after
+-- a failure of the judge of texts, whose count rose, told at the place of a schema of the document; the values' numbers are i64
+abbrev pub IsTextsFault : Relations → ℕ → ℕ → ℕ → Value → List Data → FaultD → Type 0
+IsTextsFault r depth before after schema values f = (are_i64 values ≡ true) × ((d : Document) × IsReadAs Strict schema d × convert.IsFailure r d depth most_levels before after f)
 
 -- want of memory, a failure of the judge of texts, or a fault with its cause
 abbrev pub IsRefusal : Relations → ℕ → ℕ → ℕ → Value → List Data → FaultD → Type 0
-IsRefusal r depth before after schema values f = (f ≡ memory) ⊎ (IsTextsFault before after f ⊎ IsCause r depth schema values f)
+IsRefusal r depth before after schema values f = (f ≡ memory) ⊎ (IsTextsFault r depth before after schema values f ⊎ IsCause r depth schema values f)
 
 -- ---- reports
 
@@ -71,6 +69,7 @@ pub record IsMadeOf (r : Relations) (d : Document) (depth : ℕ) (values : List 
   pub unstated : stated_in_document r d depth most_levels ≡ []
   pub verdicts : AreVerdicts (read_of as_it_stands (items_of report)) (conversions_view report.conversions) r (root_of report) values (map verdict_view report.verdicts.items)
 
+-- why there is no report of a document that was read: why it isn't converted, or the judge of texts failed at a value, which is told at the root
 abbrev pub IsUnreported : Relations → Document → ℕ → ℕ → ℕ → FaultD → Type 0
 IsUnreported r d depth before after f = convert.IsRefusal r d depth most_levels before after f
 

@@ -35,9 +35,9 @@ IsReported c parts r = IsReportOf c.texts (value_of parts.schema) (values_of c.c
 abbrev pub IsCauseIn : Call → Parts → FaultD → Type 0
 IsCauseIn c parts f = IsCause c.texts c.depth (value_of parts.schema) (values_of c.command parts) f
 
--- or the judge of texts failed, whose count rose; want of memory is told by its own status
+-- or the judge of texts failed, whose count rose, at a schema of the input's document; want of memory is told by its own status
 abbrev pub IsCaused : Call → Parts → Fault → Type 0
-IsCaused c parts f = (fault_view f ≢ memory) × (IsTextsFault c.before c.after (fault_view f) ⊎ IsCauseIn c parts (fault_view f))
+IsCaused c parts f = (fault_view f ≢ memory) × (IsTextsFault c.texts c.depth c.before c.after (value_of parts.schema) (values_of c.command parts) (fault_view f) ⊎ IsCauseIn c parts (fault_view f))
 
 abbrev pub line_of : Fault → List ℕ
 line_of f = fault_line (fault_view f)

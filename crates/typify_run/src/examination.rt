@@ -53,7 +53,6 @@ fn judged<T: Texts>(
 }
 
 // The report on a document that was read.
-#[tactic(auto, using(crate::proofs::Causes::unjudged_refused))]
 fn report_of<T: Texts>(
     alloc: Global,
     document: &Document,

@@ -6,11 +6,14 @@ use Rattle.serde_json.specs.View.{view}
 use Rattle.schema_defs.specs.Texts.{Relations}
 use Rattle.model_defs.specs.Types.{type_of}
 use Rattle.schema_tree.specs.Conversions.{conversions_view}
+use Rattle.schema_tree.specs.Document.{view as document_seen}
+use Rattle.schema_tree.specs.Fault.{fault_view}
 use Rattle.emit_defs.specs.Emission.{Emission}
 use Rattle.derive_model.specs.VerdictView.{verdict_view}
 use Rattle.typify_run.specs.Headline.{read_of}
-use Rattle.typify_run.specs.Examine.{as_it_stands}
+use Rattle.typify_run.specs.Examine.{as_it_stands, IsUnreported}
 use Rattle.typify_run.specs.Verdicts.{AreVerdicts}
+use Rattle.typify_run.proofs.Causes.{told_of_fault, unjudged_refused}
 use Rattle.typify_run.proofs.examination.report_of.Goals as goal
 
 pub judged-requires-clause-plain : goal.judged-requires-clause-plain
@@ -37,3 +40,13 @@ returns-clause-report g c =
       unstated = is.unstated;
       verdicts = subst (λ (is : List DeriveInput). AreVerdicts (read_of as_it_stands (map item_view is)) cs r t values verdicts) c.deref.ensures.value told;
     }
+
+pub returns-in_err-verdicts-clause-refused : goal.returns-in_err-verdicts-clause-refused
+returns-in_err-verdicts-clause-refused g c =
+    let r = g.T.Texts.relations c.args.texts.now in
+    let d = document_seen c.args.document.now in
+    let before = g.T.Texts.faults c.args.texts.now in
+    let after = g.T.Texts.faults c.judged.new.texts in
+    let fault = c.in_err-verdicts.field-0.0 in
+    told_of_fault c.from_residual-in_err-verdicts.result fault (λ f. IsUnreported r d c.args.depth before after f) c.from_residual-in_err-verdicts.ensures.1
+    (unjudged_refused r d c.args.depth before (g.T.Texts.faults c.converted.new.texts) after (fault_view fault) c.in_ok-emitted.ensures.counts c.in_err-verdicts.ensures.refused)
