@@ -1,7 +1,13 @@
 //! Schemas, values, and which of the values each schema admits. Each line of standard input is one JSON object of a schema and
 //! values; it is printed again, with `admitted` or `refused` behind it for each value, or with its fault.
+//!
+//! A line may also be `pattern` and a list of texts in JSON, a pattern and texts; it is printed with `none` behind it where the pattern
+//! isn't plain, `refused` where `regex` doesn't build it, or else with `yes` or `no` for each text.
 #![tactic(auto)]
 
+mod patterns;
+
+use patterns::pattern_text;
 use regex_texts::RegexTexts;
 use run_input::input_parts;
 use schema_admission::admits;
@@ -22,6 +28,9 @@ fn main(rt: HostRuntime) -> Result<(), anyhow::Error> {
 }
 
 fn answer(alloc: Global, texts: &mut RegexTexts, line: &str) -> Result<String, AllocError> {
+    if let Some(asked) = line.strip_prefix("pattern ") {
+        return pattern_text(alloc, texts, asked);
+    }
     let Ok(value) = Value::from_str(alloc, line) else {
         return String::from_str(alloc, "no JSON");
     };

@@ -2,6 +2,8 @@
 use crate::attribute::{attribute_of, no_case};
 use crate::numbers::Places;
 use crate::readers::{read_container, read_field, read_variant};
+use crate::receiver::replaced;
+use crate::said::said_of;
 use attr_parts::{RenameAllRules, RenameRule};
 use rust_syntax::{Attribute, ParseFault};
 use std::alloc::Global;
@@ -90,8 +92,26 @@ fn case_of(alloc: Global, text: &str) -> Result<Case, ParseFault> {
     Ok(case)
 }
 
-/// What is told of the case's attributes, and what they say.
+/// What is told of the case's attributes, and what they say; or what the words `receiver` and `kind` ask for.
 pub(crate) fn answer(alloc: Global, line: &str) -> Result<String, ParseFault> {
+    if let Some(item) = line.strip_prefix("receiver ") {
+        return replaced(alloc, item);
+    }
+    match line.strip_prefix("kind ") {
+        Some(kind) => said(alloc, kind),
+        None => read(alloc, line),
+    }
+}
+
+// What is said by a kind of diagnostic.
+fn said(alloc: Global, kind: &str) -> Result<String, ParseFault> {
+    match said_of(alloc, kind)? {
+        Some(text) => Ok(text),
+        None => Ok(String::from_str(alloc, "unknown")?),
+    }
+}
+
+fn read(alloc: Global, line: &str) -> Result<String, ParseFault> {
     let (head, rest) = columns(line);
     let case = case_of(alloc, rest)?;
     let (kind, rest) = words(head);

@@ -12,13 +12,26 @@
 //! line's attributes, where both brackets of a group count, and 0 where there is none. A container's keyword stands at 900,
 //! the owner's name at 901, the type of a field at 902, and the variants of an enum at 910, 912 and so on, each with its fields
 //! at the place after it. What an attribute leaves as it was is not printed, but for names.
+//!
+//! A line that begins with `kind` names a kind of diagnostic, with its texts behind ` | `, and what is said is printed. `SyntaxKind` stands
+//! behind `Syntax`, and the place of a field behind `DefaultOrder`. `kind name`, `kind no rule` and `kind symbols` print a name, a text
+//! that names no rule, and all symbols.
+//!
+//! A line that begins with `receiver` tells an item, which is printed with its `Self` replaced. It has five columns: the item's kind and
+//! name, its parameters, its predicates, a form, and a text. The parameters are written as predicates: `'a:` is a lifetime, `T: A` a type
+//! with its bounds, `[N]: u8` a constant of the type behind the colon. The form says what is made of the text: a type, an array whose
+//! length is an expression over the text's path, and so on.
 #![tactic(auto)]
 
 mod attribute;
 mod case;
+mod form;
 mod item;
+mod kind;
 mod numbers;
 mod readers;
+mod receiver;
+mod said;
 mod show;
 
 use case::answer;

@@ -9,6 +9,11 @@
 //! `module` stand rules, as `S=text`, and a `d` for each stated default. Printed are `module` and whether each type is known, or
 //! what is told of the items, or the number of the first item that leaves the forms of the reader of values.
 //!
+//! A line whose first column begins with `value` and a type has items in the second, as before, and a value in a third. Printed is whether
+//! a module of these items takes the value as that type, or the place where reading stops; `other numbers` where one is no i64 and no u64.
+//!
+//! A line whose first column is `text item` has one item, which is printed, and behind ` | ` its copy without `Self`.
+//!
 //! A place is the number of the first and of the last token, from 1, where both brackets of a group count. A container is
 //! printed as its name, its style and its fields, or its variants with theirs. Where names differ from what is written, those
 //! that are written and read follow behind `=`, with the other names that are read behind `+`. A star marks the field of a
@@ -20,6 +25,7 @@ mod modules;
 mod numbers;
 mod reading;
 mod show;
+mod texts;
 
 use reading::answer;
 use std::process::ExitCode;

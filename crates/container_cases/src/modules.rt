@@ -1,9 +1,11 @@
 //! Modules of items are made, and what came of it is printed.
 use crate::reading::{Marks, placed_item, show_told, tokens_of};
+use attr_parts::NoCase;
 use case_items::{no_case, ty_of};
-use derive_model::{Module, ModuleError};
-use rust_syntax::{DeriveInput, ParseFault};
-use schema_tree::{Constraint, Conversions, Rule};
+use derive_model::{Module, ModuleError, Verdict};
+use json_numbers::has_json_numbers;
+use rust_syntax::{DeriveInput, ParseFault, Ty};
+use schema_tree::{Constraint, Conversions, PlainTexts, Rule};
 use serde_json::Value;
 use std::alloc::{AllocError, Global};
 use std::fmt::Write;
@@ -88,5 +90,50 @@ pub(crate) fn module_answer(alloc: Global, words: &str, text: &str) -> Result<St
     match Module::new(alloc, &items, &conversions, &Marks) {
         Ok(module) => known_types(alloc, &module, types),
         Err(error) => Ok(show_error(alloc, error)?),
+    }
+}
+
+fn shown(alloc: Global, verdict: &Verdict) -> Result<String, AllocError> {
+    match verdict.refused() {
+        Some(path) => {
+            let place = path.text(alloc)?;
+            format!(in alloc; "refused {place}")
+        }
+        None => String::from_str(alloc, "taken"),
+    }
+}
+
+// What a module of the items, with no rule and no stated default, makes of a value.
+fn judged(
+    alloc: Global,
+    items: &[DeriveInput],
+    ty: &Ty,
+    value: &Value,
+) -> Result<String, ParseFault> {
+    if !has_json_numbers(value) {
+        return Ok(String::from_str(alloc, "other numbers")?);
+    }
+    let conversions = Conversions::new(alloc);
+    let mut texts = PlainTexts::new(alloc);
+    let Ok(module) = Module::new(alloc, items, &conversions, &NoCase) else {
+        return Err(no_case());
+    };
+    match module.judge(ty, value, &mut texts) {
+        Ok(verdict) => Ok(shown(alloc, &verdict)?),
+        Err(_) => Err(ParseFault::Memory),
+    }
+}
+
+/// Whether a module of the items takes a value as that type, or the place where reading stops.
+pub(crate) fn value_answer(alloc: Global, ty: &str, text: &str) -> Result<String, ParseFault> {
+    let Some((items, value)) = text.split_once(" | ") else {
+        return Err(no_case());
+    };
+    let items = items_of(alloc, items)?;
+    let tokens = tokens_of(alloc, ty)?;
+    let ty = ty_of(alloc, tokens.trees())?;
+    match Value::from_str(alloc, value) {
+        Ok(value) => judged(alloc, &items, &ty, &value),
+        Err(_) => Err(no_case()),
     }
 }

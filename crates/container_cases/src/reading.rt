@@ -1,9 +1,10 @@
 //! The reader is called, and what it answers is printed.
 ghost use Rattle.std.specs.Prelude.{◌≡◌, ◌++◌, codes, string_bytes, IfOk};
 
-use crate::modules::module_answer;
+use crate::modules::{module_answer, value_answer};
 use crate::numbers::{Places, placed_trees};
 use crate::show::{show_container, show_place};
+use crate::texts::texts_answer;
 use attr_parts::{Ctxt, Derive, Diagnostic, RenameRule, Renamer};
 use case_items::{item_of, no_case};
 use container_readers::Container;
@@ -158,7 +159,7 @@ pub(crate) fn placed_item(alloc: Global, text: &str) -> Result<DeriveInput, Pars
     item_of(alloc, placed.trees())
 }
 
-/// What is told of the item, and the container that it is read as; or what comes of a module's items.
+/// What is told of the item, and the container that it is read as; or what comes of a module's items, or of a value by them.
 pub(crate) fn answer(alloc: Global, line: &str) -> Result<String, ParseFault> {
     let Some((head, text)) = line.split_once(" | ") else {
         return Err(no_case());
@@ -168,6 +169,12 @@ pub(crate) fn answer(alloc: Global, line: &str) -> Result<String, ParseFault> {
     };
     if word == "module" {
         return module_answer(alloc, renamer, text);
+    }
+    if word == "value" {
+        return value_answer(alloc, renamer, text);
+    }
+    if word == "text" {
+        return texts_answer(alloc, text);
     }
     let derive = derive_of(word)?;
     let item = placed_item(alloc, text)?;

@@ -1,12 +1,15 @@
 //! Whole runs over sources and sinks in memory. Each line of standard input has three parts with tabs between them: the
 //! words, the streams, and the input. The words are those of `typify`, or `admission` with or without `--null-absent`, for
-//! the plain program. The streams are four numbers, or nothing where nothing disturbs the run: how many bytes
-//! the source gives at once and which of its reads fails, how many bytes the sink takes at once and which of its writes fails.
+//! the plain program. The streams are nothing where nothing disturbs the run, or one of these:
+//! - four numbers: how many bytes the source gives at once and which of its reads fails, how many bytes the sink takes at once and which of its writes fails;
+//! - `padded` and a number: blanks stand behind the input, up to so many bytes;
+//! - `judge`, a number, a pattern and a text: the judge of texts knows that pattern alone, which that text alone has, and fails at its call of that number, from 0.
+//!
 //! The line is printed, and behind it the status and what was written.
 #![tactic(auto)]
 
 use run_io::{MemorySink, MemorySource, PlainSink, PlainSource, Sink, Source};
-use schema_tree::Setting;
+use schema_tree::{FailingTexts, PlainTexts, Setting, Texts};
 use std::alloc::{AllocError, Global};
 use typify_run::RegexTexts;
 
@@ -27,12 +30,13 @@ fn answer(alloc: Global, line: &str) -> Result<String, AllocError> {
         return String::from_str(alloc, "no case");
     };
     let called = Called::read(alloc, words)?;
-    if streams.is_empty() {
+    let Some((first, others)) = streams.split_once(' ') else {
         return plain_run(alloc, &called, input);
-    }
-    match Streams::read(alloc, streams)? {
-        Some(streams) => disturbed_run(alloc, &called, &streams, input),
-        None => String::from_str(alloc, "no streams"),
+    };
+    match first {
+        "padded" => padded_run(alloc, &called, others, input),
+        "judge" => judged_run(alloc, &called, others, input),
+        _ => streamed_run(alloc, &called, streams, input),
     }
 }
 
@@ -55,14 +59,19 @@ impl Called {
     }
 
     // The status with which it ends.
-    fn run<S: Source, K: Sink>(&self, alloc: Global, source: &mut S, sink: &mut K) -> u8 {
-        let mut texts = RegexTexts::new(alloc);
+    fn run<S: Source, K: Sink, T: Texts>(
+        &self,
+        alloc: Global,
+        source: &mut S,
+        sink: &mut K,
+        texts: &mut T,
+    ) -> u8 {
         match self {
             Called::Product(words) => {
-                typify_run::run(alloc, words.as_slice(), source, sink, &mut texts).status
+                typify_run::run(alloc, words.as_slice(), source, sink, texts).status
             }
             Called::Plain(setting) => {
-                admission_run::run(alloc, source, sink, &mut texts, *setting).status()
+                admission_run::run(alloc, source, sink, texts, *setting).status()
             }
         }
     }
@@ -111,11 +120,81 @@ impl Streams {
     }
 }
 
-fn plain_run(alloc: Global, called: &Called, input: &str) -> Result<String, AllocError> {
+// A run whose streams nothing disturbs, by that judge of texts.
+fn run_by<T: Texts>(
+    alloc: Global,
+    called: &Called,
+    texts: &mut T,
+    input: &str,
+) -> Result<String, AllocError> {
     let mut source = PlainSource::new(Vec::from_slice(alloc, input.as_bytes())?);
     let mut sink = PlainSink::new(alloc);
-    let status = called.run(alloc, &mut source, &mut sink);
+    let status = called.run(alloc, &mut source, &mut sink, texts);
     ended(alloc, status, sink.written())
+}
+
+fn plain_run(alloc: Global, called: &Called, input: &str) -> Result<String, AllocError> {
+    let mut texts = RegexTexts::new(alloc);
+    run_by(alloc, called, &mut texts, input)
+}
+
+fn padded_run(
+    alloc: Global,
+    called: &Called,
+    length: &str,
+    input: &str,
+) -> Result<String, AllocError> {
+    let Ok(length) = length.parse::<usize>() else {
+        return String::from_str(alloc, "no streams");
+    };
+    let mut padded = String::from_str(alloc, input)?;
+    for _ in input.len()..length {
+        padded.push(' ')?;
+    }
+    plain_run(alloc, called, &padded)
+}
+
+fn judged_run(
+    alloc: Global,
+    called: &Called,
+    judge: &str,
+    input: &str,
+) -> Result<String, AllocError> {
+    match judge_of(alloc, judge)? {
+        Some(mut texts) => run_by(alloc, called, &mut texts, input),
+        None => String::from_str(alloc, "no judge"),
+    }
+}
+
+// The judge that the words say: the call that fails, a pattern, and the text that has it.
+fn judge_of(alloc: Global, words: &str) -> Result<Option<FailingTexts>, AllocError> {
+    let Some((call, rest)) = words.split_once(' ') else {
+        return Ok(None);
+    };
+    let Ok(call) = call.parse::<u64>() else {
+        return Ok(None);
+    };
+    let Some((pattern, text)) = rest.split_once(' ') else {
+        return Ok(None);
+    };
+    let mut plain = PlainTexts::new(alloc);
+    let pattern = String::from_str(alloc, pattern)?;
+    let text = String::from_str(alloc, text)?;
+    plain.add(pattern, vec![in alloc; text]?)?;
+    let failing = Vec::from_slice(alloc, &[call])?;
+    Ok(Some(FailingTexts::new(plain, failing)))
+}
+
+fn streamed_run(
+    alloc: Global,
+    called: &Called,
+    streams: &str,
+    input: &str,
+) -> Result<String, AllocError> {
+    match Streams::read(alloc, streams)? {
+        Some(streams) => disturbed_run(alloc, called, &streams, input),
+        None => String::from_str(alloc, "no streams"),
+    }
 }
 
 fn disturbed_run(
@@ -129,7 +208,8 @@ fn disturbed_run(
     let mut source = MemorySource::new(bytes, streams.given.max(1), failing);
     let failing = Vec::from_slice(alloc, &[streams.failing_write])?;
     let mut sink = MemorySink::new(alloc, streams.taken, failing);
-    let status = called.run(alloc, &mut source, &mut sink);
+    let mut texts = RegexTexts::new(alloc);
+    let status = called.run(alloc, &mut source, &mut sink, &mut texts);
     ended(alloc, status, sink.written())
 }
 

@@ -16,7 +16,8 @@ fn title(found: Option<&Schema>) -> &str {
     }
 }
 
-fn document(alloc: Global, text: &str) -> Option<Document> {
+/// The document that a text is read as.
+pub(crate) fn document(alloc: Global, text: &str) -> Option<Document> {
     match Value::from_str(alloc, text) {
         Ok(value) => Document::read(alloc, &value).ok(),
         Err(_) => None,

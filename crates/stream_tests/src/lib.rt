@@ -1,0 +1,5 @@
+//! Tests of sources and sinks that are no table.
+#![tactic(auto)]
+
+#[cfg(test)]
+mod streams;
