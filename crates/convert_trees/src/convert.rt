@@ -43,10 +43,9 @@ use merged_rows::{
     Place, Standing, is_deep, merge_fault, merged_parts, place_inside, place_of_part, start_at,
     too_deep,
 };
-use row_merges::{Listed, Merge, MergeEnd};
+use row_merges::{Listed, Merge, MergeEnd, finding};
 use row_trees::row_tree;
 use row_types::{Branch, Finding, Part, PartKind, Row, Source, Steps};
-use schema_rows::finding;
 use schema_tree::{Fault, Texts};
 use schema_types::Schema;
 use std::collections::VecDeque;

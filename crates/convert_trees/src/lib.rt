@@ -16,4 +16,5 @@ mod unread;
 pub use keeping::{Kept, Unread, Values};
 pub use names::root_name;
 pub use note_order::PlacedNote;
+pub use row_merges::{Merge, merges_at, merges_of};
 pub use table::{Converted, definition_targets, nothing_kept, root_tree, table_of, tree_at};

@@ -8,7 +8,7 @@ use Rattle.entry_defs.specs.Table.{Table}
 use Rattle.convert_walks.specs.Tree.{Node}
 use Rattle.convert_walks.specs.Told.{Note, notes_in}
 use Rattle.note_order.specs.Notes.{notes_view}
-use Rattle.convert_trees.specs.Unread.{At, first_kept, unread_listed}
+use Rattle.typify_convert.specs.Unread.{At, first_kept, unread_listed}
 use Rattle.space_trees.specs.Leading.{found_led}
 use Rattle.space_trees.specs.Placed.{rest_or_first}
 use Rattle.history_laws.specs.Placing.{led_alone, next_id, target_id}

@@ -1,7 +1,7 @@
 -- Faults that are told again, and faults that a call comes to.
 use Rattle.std.proofs.Common.{◌≡◌, ◌⊎◌, inl, inr, List, [], ◌∷◌, Option, None, Some, option_map, refl, sym, ap, subst, ◌∙◌}
 use Rattle.schema_tree.specs.Fault.{FaultD, memory}
-use Rattle.convert_trees.specs.Unread.{At, first_kept}
+use Rattle.typify_convert.specs.Unread.{At, first_kept}
 use Rattle.type_space.specs.Kept.{listed_view}
 use Rattle.type_space.specs.Space.{History, Keeps}
 use Rattle.type_space.specs.Refused.{IsRefusal, IsUnread, IsOrMemory, IsFirstUnread}

@@ -13,13 +13,13 @@ use Rattle.convert_defs.specs.RootReference.{refers_to_root}
 use Rattle.convert_walks.specs.Spot.{Spot}
 use Rattle.convert_walks.specs.Tree.{Node, definition_target, definition_trees, document_tree, entry_at, root_entry, root_targets, tree_at}
 use Rattle.convert_walks.specs.Told.{Note, notes_in}
-use Rattle.row_merges.specs.Merges.{MergeD, merges_in}
+use Rattle.typify_convert.specs.Merges.{MergeD, merges_in}
 use Rattle.schema_tree.specs.Fault.{FaultD}
-use Rattle.convert_trees.specs.Keeping.{KeptD, ValuesD}
-use Rattle.convert_trees.specs.Unread.{At, first_kept, unread_listed}
-use Rattle.convert_trees.specs.Told.{AreFine, IsTold, Refuses, Begins}
-use Rattle.convert_trees.proofs.Roots.{begins_all}
-use Rattle.convert_trees.proofs.Telling.{told_none, told_both, begins_first, begins_second, none_fine, refuses_first, refuses_second, refuses_from}
+use Rattle.typify_convert.specs.Keeping.{KeptD, ValuesD}
+use Rattle.typify_convert.specs.Unread.{At, first_kept, unread_listed}
+use Rattle.typify_convert.specs.Told.{AreFine, IsTold, Refuses, Begins}
+use Rattle.typify_convert.proofs.Roots.{begins_all}
+use Rattle.typify_convert.proofs.Telling.{told_none, told_both, begins_first, begins_second, none_fine, refuses_first, refuses_second, refuses_from}
 use Rattle.merged_rows.specs.Starts.{spot_of}
 use Rattle.merged_rows.specs.declared.start.Start.{Start}
 use Rattle.type_space.specs.Gathered.{MergesAll, MergesFrom}

@@ -9,7 +9,7 @@ use Rattle.entry_defs.specs.Space.{Id}
 use Rattle.convert_defs.specs.Convert.{Handed}
 use Rattle.convert_walks.specs.Tree.{Node}
 use Rattle.convert_walks.specs.Told.{notes_in}
-use Rattle.convert_trees.specs.Unread.{At, unread_listed}
+use Rattle.typify_convert.specs.Unread.{At, unread_listed}
 use Rattle.history_laws.specs.Placing.{with_tree, target_id, next_id}
 use Rattle.history_laws.specs.Added.{target_at, target_nodes, targets_table, schema_entry, schema_nodes}
 use Rattle.type_space.specs.Space.{History, Keeps}

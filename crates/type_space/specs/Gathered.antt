@@ -6,7 +6,7 @@ use Rattle.convert_defs.specs.Convert.{Handed}
 use Rattle.convert_walks.specs.Tree.{document_tree, tree_at}
 use Rattle.merged_rows.specs.Starts.{spot_of}
 use Rattle.merged_rows.specs.declared.start.Start.{Start}
-use Rattle.row_merges.specs.Merges.{MergeD, merges_in}
+use Rattle.typify_convert.specs.Merges.{MergeD, merges_in}
 
 -- of the document
 pub record MergesAll (d : Document) (most n : ℕ) (ms : List MergeD) : Type 0 where

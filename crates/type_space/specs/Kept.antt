@@ -6,10 +6,10 @@ use Rattle.schema_types.specs.View.{kept_view as value_kept}
 use Rattle.entry_defs.specs.Table.{Table}
 use Rattle.convert_walks.specs.Tree.{Node}
 use Rattle.convert_walks.specs.Told.{Note, notes_in}
-use Rattle.row_merges.specs.Merges.{MergeD}
-use Rattle.convert_trees.specs.Unread.{At, first_kept, unread_listed}
-use Rattle.convert_trees.specs.Keeping.{KeptD}
-use Rattle.convert_trees.specs.Told.{AreFine}
+use Rattle.typify_convert.specs.Merges.{MergeD}
+use Rattle.typify_convert.specs.Unread.{At, first_kept, unread_listed}
+use Rattle.typify_convert.specs.Keeping.{KeptD}
+use Rattle.typify_convert.specs.Told.{AreFine}
 use Rattle.type_space.specs.declared.keeping.Listed.{Listed}
 
 abbrev pub listed_view : Listed → At

@@ -1,7 +1,7 @@
 -- Why a call of a space fails.
 use Rattle.std.specs.Prelude.{◌≡◌, ◌⊎◌, List, ◌∷◌, Option, Some, None}
 use Rattle.schema_tree.specs.Fault.{FaultD, memory, invalid_value}
-use Rattle.convert_trees.specs.Unread.{At}
+use Rattle.typify_convert.specs.Unread.{At}
 
 -- want of memory, the fault with which the space refused before, or a cause that this call comes to
 abbrev pub IsRefusal : Option FaultD → (FaultD → Type 0) → FaultD → Type 0

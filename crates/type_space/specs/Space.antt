@@ -7,7 +7,7 @@ use Rattle.convert_walks.specs.Told.{Note}
 use Rattle.schema_tree.specs.Document.{view as document_seen}
 use Rattle.schema_tree.specs.Fault.{FaultD, fault_view}
 use Rattle.note_order.specs.Notes.{notes_view}
-use Rattle.convert_trees.specs.Unread.{At, first_kept}
+use Rattle.typify_convert.specs.Unread.{At, first_kept}
 use Rattle.entry_space.specs.Seen.{seen}
 use Rattle.type_space.specs.Placing.{Plans}
 use Rattle.type_space.specs.declared.keeping.Held.{Held}

@@ -10,10 +10,10 @@ ghost use Rattle.convert_walks.specs.Tree.{root_targets};
 ghost use Rattle.entry_defs.specs.Entry.{the_root};
 ghost use Rattle.entry_trees.specs.View.{table_view, target_entry, tree_view};
 ghost use Rattle.note_order.specs.Notes.{notes_view};
-ghost use Rattle.row_merges.specs.Merges.{merges_in, merges_view};
-ghost use Rattle.convert_trees.specs.Keeping.{kept_view, unread_view};
-ghost use Rattle.convert_trees.specs.Told.{AreFine, Begins, IsTold, Refuses};
-ghost use Rattle.convert_trees.specs.Unread.{first_kept, unread_listed};
+ghost use Rattle.typify_convert.specs.Merges.{merges_in, merges_view};
+ghost use Rattle.typify_convert.specs.Keeping.{kept_view, unread_view};
+ghost use Rattle.typify_convert.specs.Told.{AreFine, Begins, IsTold, Refuses};
+ghost use Rattle.typify_convert.specs.Unread.{first_kept, unread_listed};
 ghost use Rattle.type_space.specs.Gathered.{MergesAll};
 ghost use Rattle.type_space.specs.Kept.{FoundOf};
 ghost use Rattle.type_space.specs.Space.{History, Keeps};
@@ -23,15 +23,14 @@ ghost use Rattle.type_space.specs.Added.{with_targets};
 use crate::gather::gathered;
 use crate::keeping::{Held, take_notes, take_unread};
 use crate::plan::plan_of;
-use convert_trees::{
-    Kept, PlacedNote, Unread, definition_targets, nothing_kept, root_name, root_tree,
-};
 use entry_trees::{Target, Tree, TreeTable};
 use root_references::refers_to_root;
-use row_merges::Merge;
 use schema_tree::{Document, Fault, Texts};
 use std::alloc::{AllocError, Global};
 use tree_parts::as_item;
+use typify_convert::{
+    Kept, Merge, PlacedNote, Unread, definition_targets, nothing_kept, root_name, root_tree,
+};
 
 /// The items, with their notes, and the first listed value that isn't read.
 #[derive(Drop)]

@@ -12,13 +12,12 @@ ghost use Rattle.type_space.specs.Kept.{listed_view};
 ghost use Rattle.type_space.specs.Refused.{IsFirstUnread};
 
 use crate::keeping::{Held, Listed};
-use convert_trees::PlacedNote;
 use entry_space::{EntrySpace, TypeId};
 use note_order::ordered_notes;
 use schema_tree::Fault;
 use space_emission::emit;
 use std::alloc::{AllocError, Global};
-use typify_convert::{Emitted, notes_of};
+use typify_convert::{Emitted, PlacedNote, notes_of};
 
 fn invalid(unread: Listed) -> Fault
     ensures { IsFirstUnread (Some (listed_view unread)) (fault_view result) }

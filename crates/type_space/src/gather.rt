@@ -5,15 +5,15 @@ ghost use Rattle.schema_tree.specs.Document.{view as document_seen};
 ghost use Rattle.schema_tree.specs.Fault.{fault_view, memory};
 ghost use Rattle.convert_defs.specs.Convert.{Handed};
 ghost use Rattle.merged_rows.specs.Starts.{spot_of};
-ghost use Rattle.row_merges.specs.Merges.{merges_view};
+ghost use Rattle.typify_convert.specs.Merges.{merges_view};
 ghost use Rattle.history_laws.specs.Added.{begins_at};
 ghost use Rattle.type_space.specs.Gathered.{MergesAll, MergesFrom};
 
 use merged_rows::Start;
-use row_merges::{Merge, merges_at, merges_of};
 use schema_tree::{Document, Fault, Location, Schema};
 use schema_types::Walk;
 use std::alloc::{AllocError, Global};
+use typify_convert::{Merge, merges_at, merges_of};
 
 /// What the rows of the document merge.
 pub(crate) fn gathered(

@@ -1,14 +1,14 @@
 //! What a space keeps beside its entries.
 ghost use Rattle.std.specs.Prelude.{◌≡◌, ◌++◌, IfOk, OnOk, option_map};
 ghost use Rattle.note_order.specs.Notes.{notes_view};
-ghost use Rattle.convert_trees.specs.Keeping.{unread_view};
+ghost use Rattle.typify_convert.specs.Keeping.{unread_view};
 ghost use Rattle.type_space.specs.Kept.{listed_view, or_kept};
 
 use crate::plan::Plan;
-use convert_trees::{PlacedNote, Unread};
 use schema_tree::Location;
 use serde_json::Value;
 use std::alloc::AllocError;
+use typify_convert::{PlacedNote, Unread};
 
 /// A listed value that its schema's other keywords don't read, with the place of the schema.
 #[derive(Drop)]

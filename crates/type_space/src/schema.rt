@@ -11,10 +11,10 @@ ghost use Rattle.entry_types.specs.View.{id_view};
 ghost use Rattle.entry_trees.specs.View.{table_view, target_view, tree_view};
 ghost use Rattle.merged_rows.specs.Starts.{spot_of};
 ghost use Rattle.note_order.specs.Notes.{notes_view};
-ghost use Rattle.row_merges.specs.Merges.{merges_view};
-ghost use Rattle.convert_trees.specs.Keeping.{unread_view};
-ghost use Rattle.convert_trees.specs.Told.{AreFine, Refuses};
-ghost use Rattle.convert_trees.specs.Unread.{first_kept, unread_listed};
+ghost use Rattle.typify_convert.specs.Merges.{merges_view};
+ghost use Rattle.typify_convert.specs.Keeping.{unread_view};
+ghost use Rattle.typify_convert.specs.Told.{AreFine, Refuses};
+ghost use Rattle.typify_convert.specs.Unread.{first_kept, unread_listed};
 ghost use Rattle.type_space.specs.Gathered.{MergesAll, MergesFrom};
 ghost use Rattle.type_space.specs.Kept.{FoundOf};
 ghost use Rattle.history_laws.specs.Placing.{next_id, target_id};
@@ -27,14 +27,13 @@ use crate::gather::{gathered, gathered_from, start_of};
 use crate::keeping::{Held, take_notes, take_unread};
 use crate::plan::place_next;
 use crate::target::target_found;
-use convert_trees::{PlacedNote, Unread, nothing_kept, root_name, tree_at};
 use entry_space::TypeId;
 use entry_trees::{Target, Tree, TreeTable};
 use merged_rows::Start;
-use row_merges::Merge;
 use schema_tree::{Document, Fault, Location, Schema, Texts};
 use space_trees::led_to;
 use std::alloc::{AllocError, Global};
+use typify_convert::{Merge, PlacedNote, Unread, nothing_kept, root_name, tree_at};
 
 /// The tree of a schema, with its notes, and the first listed value that isn't read.
 #[derive(Drop)]

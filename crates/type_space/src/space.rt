@@ -5,7 +5,7 @@ ghost use Rattle.schema_defs.specs.Children.{schema_at};
 ghost use Rattle.schema_tree.specs.Document.{view as document_seen};
 ghost use Rattle.schema_tree.specs.Fault.{FaultD, fault_view};
 ghost use Rattle.convert_walks.specs.Told.{ordered};
-ghost use Rattle.convert_trees.specs.Told.{AreFine, Refuses};
+ghost use Rattle.typify_convert.specs.Told.{AreFine, Refuses};
 ghost use Rattle.typify_convert.specs.Levels.{most_levels};
 ghost use Rattle.entry_defs.specs.Space.{entry_at};
 ghost use Rattle.entry_types.specs.View.{id_view, entry_view};

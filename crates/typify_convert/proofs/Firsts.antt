@@ -9,7 +9,7 @@ use Rattle.convert_walks.specs.Tree.{Node, document_tree}
 use Rattle.convert_walks.specs.Told.{Reason, state_faults, faults_in, faults_of}
 use Rattle.convert_trees.specs.Told.{no_memory, failed, TellsOf, of_reason, of_default, Refuses, by_none, by_fault}
 use Rattle.convert_trees.specs.Unread.{At, first_kept, unread_in_document}
-use Rattle.stated_walks.specs.Stated.{stated_at, stated_in, stated_in_document}
+use Rattle.formed_plans.specs.Stated.{stated_at, stated_in, stated_in_document}
 use Rattle.typify_convert.specs.Unread.{TellsUnread, IsToldUnread}
 use Rattle.typify_convert.specs.Refused.{IsFirst, IsRefusal}
 

@@ -7,7 +7,7 @@ use Rattle.schema_defs.specs.Schema.{Document}
 use Rattle.schema_tree.specs.Conversions.{conversions_view}
 use Rattle.entry_defs.specs.Table.{root_of}
 use Rattle.emit_defs.specs.Emission.{Emission, emission}
-use Rattle.merged_documents.specs.Laws.{plan_of}
+use Rattle.formed_plans.specs.Laws.{plan_of}
 use Rattle.typify_convert.specs.declared.conversion.Emitted.{Emitted}
 
 abbrev pub emitted_view : Emitted → Emission

@@ -9,7 +9,7 @@ use Rattle.convert_walks.specs.Told.{faults_of}
 use Rattle.convert_walks.specs.Tree.{document_tree}
 use Rattle.convert_trees.specs.Told.{places_of_nodes, Tells}
 use Rattle.convert_trees.specs.Unread.{At, unread_in_document}
-use Rattle.stated_walks.specs.Stated.{stated_in_document}
+use Rattle.formed_plans.specs.Stated.{stated_in_document}
 
 module _ (r : Relations) (d : Document) (most n : ℕ) where
   -- the first fault of its schemas, or the first default that an optional property of theirs states, which isn't checked yet, in the order of conversion

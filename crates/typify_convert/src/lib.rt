@@ -9,6 +9,10 @@ mod note;
 mod noting;
 
 pub use conversion::{Emitted, converted};
+pub use convert_trees::{
+    Kept, Merge, PlacedNote, Unread, definition_targets, merges_at, merges_of, nothing_kept,
+    root_name, root_tree, tree_at,
+};
 pub use nesting::levels;
 pub use note::{Note, NoteKind, Way};
 pub use noting::notes_of;

@@ -22,8 +22,8 @@ use Rattle.schema_tree.proofs.WidePlaces.{wide_exact}
 use Rattle.convert_walks.specs.Told.{faults_of}
 use Rattle.typify_convert.specs.Levels.{most_levels}
 use Rattle.typify_convert.proofs.Firsts.{first_is_one}
-use Rattle.convert_trees.specs.Unread.{unread_in_document}
-use Rattle.convert_trees.proofs.Roots.{root_place}
+use Rattle.typify_convert.specs.Unread.{unread_in_document}
+use Rattle.typify_convert.proofs.Roots.{root_place}
 use Rattle.stated_walks.specs.Stated.{stated_in_document}
 use Rattle.typify_convert.specs.Refused as convert
 use Rattle.typify_run.specs.Verdicts.{IsUnjudged}

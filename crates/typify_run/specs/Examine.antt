@@ -13,7 +13,7 @@ use Rattle.convert_walks.specs.Told.{faults_of, notes_of}
 use Rattle.typify_convert.specs.Levels.{most_levels}
 use Rattle.typify_convert.specs.Note.{note_of}
 use Rattle.typify_convert.specs.Emitted.{emission_of}
-use Rattle.convert_trees.specs.Unread.{unread_in_document}
+use Rattle.typify_convert.specs.Unread.{unread_in_document}
 use Rattle.stated_walks.specs.Stated.{stated_in_document}
 use Rattle.typify_convert.specs.Refused as convert
 use Rattle.schema_tree.specs.Conversions.{conversions_view}

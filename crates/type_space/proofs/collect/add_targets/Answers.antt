@@ -1,5 +1,5 @@
-use Rattle.convert_trees.proofs.Ends.{if_err}
-use Rattle.convert_trees.proofs.Telling.{want_refuses}
+use Rattle.typify_convert.proofs.Ends.{if_err}
+use Rattle.typify_convert.proofs.Telling.{want_refuses}
 use Rattle.type_space.proofs.collect.add_targets.Goals as goal
 
 pub returns-in_err-merges-clause-refused : goal.returns-in_err-merges-clause-refused

@@ -1,8 +1,8 @@
 use Rattle.std.proofs.Common.{option_map}
 use Rattle.schema_tree.specs.Document.{view as document_seen}
 use Rattle.entry_trees.specs.View.{table_view}
-use Rattle.convert_trees.specs.Keeping.{unread_view}
-use Rattle.convert_trees.proofs.Ends.{if_err}
+use Rattle.typify_convert.specs.Keeping.{unread_view}
+use Rattle.typify_convert.proofs.Ends.{if_err}
 use Rattle.type_space.proofs.Told.{listed_later, asked_found, refuses_later}
 use Rattle.type_space.proofs.collect.collected.Goals as goal
 

@@ -1,8 +1,8 @@
 use Rattle.std.proofs.Common.{option_map, sym, ap, ◌∙◌}
 use Rattle.schema_tree.specs.Document.{view as document_seen}
 use Rattle.entry_trees.specs.View.{table_view}
-use Rattle.convert_trees.specs.Keeping.{unread_view}
-use Rattle.convert_trees.proofs.Roots.{none_listed}
+use Rattle.typify_convert.specs.Keeping.{unread_view}
+use Rattle.typify_convert.proofs.Roots.{none_listed}
 use Rattle.history_laws.specs.Added.{target_nodes}
 use Rattle.type_space.proofs.collect.first_unread.Goals as goal
 

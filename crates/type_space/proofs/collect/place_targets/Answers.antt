@@ -1,7 +1,7 @@
 use Rattle.std.proofs.Common.{option_map}
 use Rattle.entry_trees.specs.View.{table_view}
 use Rattle.note_order.specs.Notes.{notes_view}
-use Rattle.convert_trees.specs.Keeping.{unread_view}
+use Rattle.typify_convert.specs.Keeping.{unread_view}
 use Rattle.type_space.proofs.Holding.{targets_held}
 use Rattle.type_space.proofs.collect.place_targets.Goals as goal
 

@@ -1,6 +1,6 @@
 use Rattle.schema_tree.specs.Document.{view as document_seen}
-use Rattle.convert_trees.specs.Keeping.{kept_view}
-use Rattle.row_merges.specs.Merges.{merges_view}
+use Rattle.typify_convert.specs.Keeping.{kept_view}
+use Rattle.typify_convert.specs.Merges.{merges_view}
 use Rattle.history_laws.specs.Added.{target_nodes}
 use Rattle.type_space.proofs.Told.{targets_begin, none_begins, found_of}
 use Rattle.type_space.proofs.collect.targets_by.Goals as goal

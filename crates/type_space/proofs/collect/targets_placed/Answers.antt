@@ -1,6 +1,6 @@
 use Rattle.schema_tree.specs.Document.{view as document_seen}
-use Rattle.convert_trees.proofs.Ends.{if_err}
-use Rattle.convert_trees.proofs.Telling.{want_refuses}
+use Rattle.typify_convert.proofs.Ends.{if_err}
+use Rattle.typify_convert.proofs.Telling.{want_refuses}
 use Rattle.type_space.proofs.collect.targets_placed.Goals as goal
 
 pub returns-clause-added : goal.returns-clause-added

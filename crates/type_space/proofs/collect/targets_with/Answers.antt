@@ -1,7 +1,7 @@
 use Rattle.std.proofs.Common.{map}
 use Rattle.schema_tree.specs.Document.{view as document_seen}
 use Rattle.entry_trees.specs.View.{table_view, target_entry}
-use Rattle.convert_trees.proofs.Ends.{if_err}
+use Rattle.typify_convert.proofs.Ends.{if_err}
 use Rattle.type_space.proofs.Told.{all_told, all_targets, definitions_begin, root_begins, first_refuses, second_refuses}
 use Rattle.type_space.proofs.collect.targets_with.Goals as goal
 

@@ -1,7 +1,7 @@
 use Rattle.std.proofs.Common.{map, sym, ◌∙◌}
 use Rattle.schema_tree.specs.Document.{view as document_seen}
 use Rattle.entry_trees.specs.View.{target_entry}
-use Rattle.convert_trees.proofs.Ends.{if_err}
+use Rattle.typify_convert.proofs.Ends.{if_err}
 use Rattle.type_space.proofs.Told.{no_root_targets, no_root_told, a_root_begins, a_root_targets, a_root_told, a_root_refused}
 use Rattle.type_space.proofs.collect.with_root.Goals as goal
 

@@ -2,8 +2,8 @@ use Rattle.std.proofs.Common.{map, ap, ◌∙◌}
 use Rattle.convert_defs.specs.Convert.{root_name}
 use Rattle.schema_tree.specs.Document.{view as document_seen}
 use Rattle.entry_trees.specs.View.{target_entry, tree_view}
-use Rattle.convert_trees.proofs.Ends.{if_err}
-use Rattle.convert_trees.proofs.Telling.{want_refuses}
+use Rattle.typify_convert.proofs.Ends.{if_err}
+use Rattle.typify_convert.proofs.Telling.{want_refuses}
 use Rattle.type_space.proofs.Told.{item_targets}
 use Rattle.type_space.proofs.collect.with_used_root.Goals as goal
 

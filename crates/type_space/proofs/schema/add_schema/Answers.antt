@@ -2,8 +2,8 @@ use Rattle.std.proofs.Common.{sym, ap, option_map, ◌∙◌}
 use Rattle.schema_tree.specs.Document.{view as document_seen}
 use Rattle.entry_types.specs.View.{id_view}
 use Rattle.entry_trees.specs.View.{target_view}
-use Rattle.convert_trees.proofs.Ends.{if_err}
-use Rattle.convert_trees.proofs.Telling.{want_refuses}
+use Rattle.typify_convert.proofs.Ends.{if_err}
+use Rattle.typify_convert.proofs.Telling.{want_refuses}
 use Rattle.type_space.proofs.Told.{item_added, item_fine}
 use Rattle.type_space.proofs.schema.add_schema.Goals as goal
 

@@ -2,8 +2,8 @@ use Rattle.std.proofs.Common.{option_map, sym}
 use Rattle.schema_types.specs.View.{schema_view}
 use Rattle.schema_tree.specs.Document.{view as document_seen}
 use Rattle.entry_types.specs.View.{id_view}
-use Rattle.convert_trees.proofs.Ends.{if_err}
-use Rattle.convert_trees.proofs.Telling.{want_refuses}
+use Rattle.typify_convert.proofs.Ends.{if_err}
+use Rattle.typify_convert.proofs.Telling.{want_refuses}
 use Rattle.type_space.proofs.Told.{schema_added, schema_fine, schema_refused}
 use Rattle.type_space.proofs.schema.convert_schema.Goals as goal
 

@@ -3,8 +3,8 @@ use Rattle.schema_types.specs.View.{schema_view}
 use Rattle.schema_tree.specs.Document.{view as document_seen}
 use Rattle.merged_rows.specs.Starts.{spot_of}
 use Rattle.convert_walks.specs.Tree.{tree_at}
-use Rattle.convert_trees.specs.Keeping.{unread_view}
-use Rattle.convert_trees.proofs.Roots.{none_listed}
+use Rattle.typify_convert.specs.Keeping.{unread_view}
+use Rattle.typify_convert.proofs.Roots.{none_listed}
 use Rattle.history_laws.specs.Added.{targets_table}
 use Rattle.type_space.proofs.Told.{if_err_mapped, listed_refused}
 use Rattle.type_space.proofs.schema.first_unread.Goals as goal

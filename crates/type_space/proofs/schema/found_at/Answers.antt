@@ -2,8 +2,8 @@ use Rattle.std.proofs.Common.{[], option_map}
 use Rattle.schema_types.specs.View.{schema_view}
 use Rattle.schema_tree.specs.Document.{view as document_seen}
 use Rattle.merged_rows.specs.Starts.{spot_of}
-use Rattle.convert_trees.specs.Keeping.{unread_view}
-use Rattle.convert_trees.proofs.Ends.{if_err}
+use Rattle.typify_convert.specs.Keeping.{unread_view}
+use Rattle.typify_convert.proofs.Ends.{if_err}
 use Rattle.type_space.proofs.Told.{spot_listed, spot_fine, spot_found, spot_refused, spot_refused_later}
 use Rattle.type_space.proofs.schema.found_at.Goals as goal
 

@@ -1,8 +1,8 @@
 use Rattle.std.proofs.Common.{option_map}
 use Rattle.schema_types.specs.View.{schema_view}
 use Rattle.schema_tree.specs.Document.{view as document_seen}
-use Rattle.row_merges.specs.Merges.{merges_view}
-use Rattle.convert_trees.specs.Keeping.{kept_view}
+use Rattle.typify_convert.specs.Merges.{merges_view}
+use Rattle.typify_convert.specs.Keeping.{kept_view}
 use Rattle.type_space.proofs.Told.{from_begins, found_of}
 use Rattle.type_space.proofs.schema.found_by.Goals as goal
 

@@ -2,7 +2,7 @@ use Rattle.std.proofs.Common.{option_map}
 use Rattle.entry_types.specs.View.{id_view}
 use Rattle.entry_trees.specs.View.{tree_view}
 use Rattle.note_order.specs.Notes.{notes_view}
-use Rattle.convert_trees.specs.Keeping.{unread_view}
+use Rattle.typify_convert.specs.Keeping.{unread_view}
 use Rattle.type_space.proofs.Holding.{tree_held}
 use Rattle.type_space.proofs.schema.place.Goals as goal
 

@@ -4,8 +4,8 @@ use Rattle.schema_tree.specs.Document.{view as document_seen}
 use Rattle.merged_rows.specs.Starts.{spot_of}
 use Rattle.entry_types.specs.View.{id_view}
 use Rattle.convert_walks.specs.Tree.{tree_at}
-use Rattle.convert_trees.proofs.Ends.{if_err}
-use Rattle.convert_trees.proofs.Telling.{want_refuses}
+use Rattle.typify_convert.proofs.Ends.{if_err}
+use Rattle.typify_convert.proofs.Telling.{want_refuses}
 use Rattle.type_space.proofs.Holding.{same_entry}
 use Rattle.type_space.proofs.schema.placed.Goals as goal
 

@@ -1,5 +1,5 @@
-use Rattle.convert_trees.proofs.Ends.{if_err}
-use Rattle.convert_trees.proofs.Telling.{want_refuses}
+use Rattle.typify_convert.proofs.Ends.{if_err}
+use Rattle.typify_convert.proofs.Telling.{want_refuses}
 use Rattle.type_space.proofs.schema.unread_asked.Goals as goal
 
 pub returns-in_err-below-clause-refused : goal.returns-in_err-below-clause-refused

@@ -3,7 +3,7 @@ use Rattle.schema_types.specs.View.{schema_view}
 use Rattle.schema_tree.specs.Document.{view as document_seen}
 use Rattle.merged_rows.specs.Starts.{spot_of}
 use Rattle.entry_trees.specs.View.{table_view}
-use Rattle.convert_trees.proofs.Ends.{if_err}
+use Rattle.typify_convert.proofs.Ends.{if_err}
 use Rattle.type_space.proofs.Told.{spot_unread, items_refused, again_refused}
 use Rattle.type_space.proofs.schema.unread_by_items.Goals as goal
 

@@ -4,7 +4,7 @@ use Rattle.schema_tree.specs.Document.{view as document_seen}
 use Rattle.schema_tree.specs.Fault.{fault_view}
 use Rattle.convert_walks.specs.Told.{faults_of, notes_of}
 use Rattle.convert_trees.specs.Unread.{unread_in_document}
-use Rattle.stated_walks.specs.Stated.{stated_in_document}
+use Rattle.formed_plans.specs.Stated.{stated_in_document}
 use Rattle.typify_convert.specs.Emitted.{emission_of, emitted_view}
 use Rattle.typify_convert.specs.Note.{note_of}
 use Rattle.typify_convert.specs.Refused.{IsRefusal}

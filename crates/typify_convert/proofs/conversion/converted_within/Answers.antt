@@ -6,7 +6,7 @@ use Rattle.naming_defs.specs.Good.{is_good_name}
 use Rattle.emit_defs.specs.Emission.{emission}
 use Rattle.schema_tree.specs.Document.{view as document_seen}
 use Rattle.space_trees.specs.Formed.{IsFormed}
-use Rattle.merged_documents.specs.Laws.{plan_of}
+use Rattle.formed_plans.specs.Laws.{plan_of}
 use Rattle.convert_walks.specs.Told.{Note, ordered}
 use Rattle.std.proofs.Common.{List, map, option_map}
 use Rattle.convert_trees.specs.Unread.{unread_in_document}

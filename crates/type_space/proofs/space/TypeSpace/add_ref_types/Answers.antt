@@ -1,7 +1,7 @@
 use Rattle.std.proofs.Common.{ℕ, subst}
 use Rattle.std.specs.Prelude.{IfErr, OnOk}
 use Rattle.schema_tree.specs.Fault.{fault_view}
-use Rattle.convert_trees.specs.Told.{AreFine, Refuses}
+use Rattle.typify_convert.specs.Told.{AreFine, Refuses}
 use Rattle.type_space.specs.Space.{History, Holds, document_in, depth_in, refusal_in}
 use Rattle.history_laws.specs.Added.{target_nodes}
 use Rattle.type_space.specs.Added.{with_targets}

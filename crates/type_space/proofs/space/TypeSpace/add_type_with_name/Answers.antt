@@ -2,7 +2,7 @@ use Rattle.std.proofs.Common.{ℕ, subst, option_map}
 use Rattle.std.specs.Prelude.{IfErr, IfOk, OnOk}
 use Rattle.schema_tree.specs.Fault.{fault_view}
 use Rattle.entry_types.specs.View.{id_view}
-use Rattle.convert_trees.specs.Told.{AreFine, Refuses}
+use Rattle.typify_convert.specs.Told.{AreFine, Refuses}
 use Rattle.type_space.specs.Space.{History, Holds, document_in, depth_in, refusal_in}
 use Rattle.type_space.specs.Added.{Adds, added, added_nodes, met_nodes}
 use Rattle.type_space.specs.Refused.{IsRefusal}

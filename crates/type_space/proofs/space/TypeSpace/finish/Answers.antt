@@ -1,6 +1,6 @@
 use Rattle.std.proofs.Common.{List, map, ap, ◌∙◌}
 use Rattle.convert_walks.specs.Told.{Note, ordered}
-use Rattle.convert_trees.proofs.Ends.{if_err}
+use Rattle.typify_convert.proofs.Ends.{if_err}
 use Rattle.typify_convert.specs.Note.{note_of}
 use Rattle.type_space.proofs.Refusals.{told_again, finish_cause, read_so}
 use Rattle.type_space.proofs.space.TypeSpace.finish.Goals as goal

@@ -1,6 +1,6 @@
 use Rattle.schema_tree.specs.Fault.{FaultD, fault_view}
-use Rattle.convert_trees.specs.Told.{Refuses}
-use Rattle.convert_trees.proofs.Ends.{if_err}
+use Rattle.typify_convert.specs.Told.{Refuses}
+use Rattle.typify_convert.proofs.Ends.{if_err}
 use Rattle.type_space.specs.Space.{document_in, depth_in}
 use Rattle.history_laws.specs.Added.{target_nodes}
 use Rattle.type_space.proofs.Refusals.{told_again, kept_cause}

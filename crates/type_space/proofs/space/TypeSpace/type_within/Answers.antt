@@ -1,7 +1,7 @@
 use Rattle.std.proofs.Common.{option_map}
 use Rattle.schema_tree.specs.Fault.{FaultD, fault_view}
-use Rattle.convert_trees.specs.Told.{Refuses}
-use Rattle.convert_trees.proofs.Ends.{if_err}
+use Rattle.typify_convert.specs.Told.{Refuses}
+use Rattle.typify_convert.proofs.Ends.{if_err}
 use Rattle.type_space.specs.Space.{document_in, depth_in}
 use Rattle.type_space.specs.Added.{met_nodes}
 use Rattle.type_space.proofs.Refusals.{told_again, kept_cause}
