@@ -8,8 +8,7 @@ ghost use Rattle.convert_defs.specs.Standing.{is_untyped as is_untyped_of};
 ghost use Rattle.convert_defs.specs.Owners.{array_finding as array_finding_of, object_finding as object_finding_of};
 ghost use Rattle.convert_defs.specs.Table.{untyped};
 ghost use Rattle.row_types.specs.Given.{plain_view, same_view, lists_view, named_view};
-ghost use Rattle.row_types.specs.View.{finding_view};
-ghost use Rattle.type_rows.specs.Line.{line};
+ghost use Rattle.type_rows.specs.Line.{held_view, line};
 
 use array_rows::array_finding;
 use object_rows::object_finding;
@@ -20,6 +19,7 @@ use row_types::{
 use schema_tree::Document;
 use schema_types::InstanceType;
 use std::alloc::{AllocError, Global};
+use type_rows::hold;
 
 fn is_object(keywords: &Keywords<'_>) -> bool
     ensures { result ≡ (has_type_of InstanceType.Object (plain_view keywords.now).types && is_none (plain_view keywords.now).format && is_bare_of (plain_view keywords.now) (same_view keywords.now)) }
@@ -32,14 +32,14 @@ pub fn object_line<'d>(
     alloc: Global,
     document: &Document,
     keywords: &Keywords<'d>,
-) -> Result<Option<Finding<'d>>, AllocError>
-    ensures { IfOk result (λ o. (r : Relations) → option_map (finding_view r) o ≡ line (has_type_of InstanceType.Object (plain_view keywords.now).types && is_none (plain_view keywords.now).format && is_bare_of (plain_view keywords.now) (same_view keywords.now)) (object_finding_of (document_seen document.now).setting (named_view keywords.now))) }
+) -> Result<Option<Box<Finding<'d>>>, AllocError>
+    ensures { IfOk result (λ o. (r : Relations) → option_map (held_view r) o ≡ line (has_type_of InstanceType.Object (plain_view keywords.now).types && is_none (plain_view keywords.now).format && is_bare_of (plain_view keywords.now) (same_view keywords.now)) (object_finding_of (document_seen document.now).setting (named_view keywords.now))) }
 {
     if !is_object(keywords) {
         return Ok(None);
     }
     let finding = object_finding(alloc, document.setting(), Vec::new(alloc), keywords.members)?;
-    Ok(Some(finding))
+    Ok(Some(hold(alloc, finding)?))
 }
 
 fn is_untyped_object(keywords: &Keywords<'_>) -> bool
@@ -56,15 +56,15 @@ pub fn untyped_object_line<'d>(
     alloc: Global,
     document: &Document,
     keywords: &Keywords<'d>,
-) -> Result<Option<Finding<'d>>, AllocError>
-    ensures { IfOk result (λ o. (r : Relations) → option_map (finding_view r) o ≡ line (is_untyped_of (plain_view keywords.now) && is_bare_of (plain_view keywords.now) (same_view keywords.now) && without_lists (lists_view keywords.now) && not (without_named (named_view keywords.now))) (add_notes untyped (object_finding_of (document_seen document.now).setting (named_view keywords.now)))) }
+) -> Result<Option<Box<Finding<'d>>>, AllocError>
+    ensures { IfOk result (λ o. (r : Relations) → option_map (held_view r) o ≡ line (is_untyped_of (plain_view keywords.now) && is_bare_of (plain_view keywords.now) (same_view keywords.now) && without_lists (lists_view keywords.now) && not (without_named (named_view keywords.now))) (add_notes untyped (object_finding_of (document_seen document.now).setting (named_view keywords.now)))) }
 {
     if !is_untyped_object(keywords) {
         return Ok(None);
     }
     let notes = with_note(Vec::new(alloc), true, Way::Narrowed, NoteKind::Untyped)?;
     let finding = object_finding(alloc, document.setting(), notes, keywords.members)?;
-    Ok(Some(finding))
+    Ok(Some(hold(alloc, finding)?))
 }
 
 fn is_array(keywords: &Keywords<'_>) -> bool
@@ -77,14 +77,14 @@ fn is_array(keywords: &Keywords<'_>) -> bool
 pub fn array_line<'d>(
     alloc: Global,
     keywords: &Keywords<'d>,
-) -> Result<Option<Finding<'d>>, AllocError>
-    ensures { IfOk result (λ o. (r : Relations) → option_map (finding_view r) o ≡ line (has_type_of InstanceType.Array (plain_view keywords.now).types && is_none (plain_view keywords.now).format && is_bare_of (plain_view keywords.now) (same_view keywords.now)) (array_finding_of (lists_view keywords.now))) }
+) -> Result<Option<Box<Finding<'d>>>, AllocError>
+    ensures { IfOk result (λ o. (r : Relations) → option_map (held_view r) o ≡ line (has_type_of InstanceType.Array (plain_view keywords.now).types && is_none (plain_view keywords.now).format && is_bare_of (plain_view keywords.now) (same_view keywords.now)) (array_finding_of (lists_view keywords.now))) }
 {
     if !is_array(keywords) {
         return Ok(None);
     }
     let finding = array_finding(alloc, Vec::new(alloc), keywords.lists)?;
-    Ok(Some(finding))
+    Ok(Some(hold(alloc, finding)?))
 }
 
 fn is_untyped_array(keywords: &Keywords<'_>) -> bool
@@ -100,13 +100,13 @@ fn is_untyped_array(keywords: &Keywords<'_>) -> bool
 pub fn untyped_array_line<'d>(
     alloc: Global,
     keywords: &Keywords<'d>,
-) -> Result<Option<Finding<'d>>, AllocError>
-    ensures { IfOk result (λ o. (r : Relations) → option_map (finding_view r) o ≡ line (is_untyped_of (plain_view keywords.now) && is_bare_of (plain_view keywords.now) (same_view keywords.now) && without_named (named_view keywords.now) && not (without_lists (lists_view keywords.now))) (add_notes untyped (array_finding_of (lists_view keywords.now)))) }
+) -> Result<Option<Box<Finding<'d>>>, AllocError>
+    ensures { IfOk result (λ o. (r : Relations) → option_map (held_view r) o ≡ line (is_untyped_of (plain_view keywords.now) && is_bare_of (plain_view keywords.now) (same_view keywords.now) && without_named (named_view keywords.now) && not (without_lists (lists_view keywords.now))) (add_notes untyped (array_finding_of (lists_view keywords.now)))) }
 {
     if !is_untyped_array(keywords) {
         return Ok(None);
     }
     let notes = with_note(Vec::new(alloc), true, Way::Narrowed, NoteKind::Untyped)?;
     let finding = array_finding(alloc, notes, keywords.lists)?;
-    Ok(Some(finding))
+    Ok(Some(hold(alloc, finding)?))
 }

@@ -3,9 +3,8 @@ ghost use Rattle.std.specs.Prelude.{◌≡◌, IfOk, drop, option_map};
 ghost use Rattle.schema_defs.specs.Texts.{Relations};
 ghost use Rattle.schema_tree.specs.Document.{view as document_seen};
 ghost use Rattle.schema_defs.specs.Schema.{Document as DocumentOf};
-ghost use Rattle.type_rows.specs.Line.{first_found};
+ghost use Rattle.type_rows.specs.Line.{first_found, held_view};
 ghost use Rattle.row_types.specs.Given.{plain_view, same_view, lists_view, named_view};
-ghost use Rattle.row_types.specs.View.{finding_view};
 ghost use Rattle.line_rows.specs.Runs.{first_lines, second_lines, third_lines, last_lines};
 
 use crate::owners::{array_line, object_line, untyped_array_line, untyped_object_line};
@@ -24,10 +23,10 @@ use type_rows::{
 pub fn first_run<'d>(
     alloc: Global,
     keywords: &Keywords<'d>,
-) -> Result<Option<Finding<'d>>, AllocError>
-    ensures { IfOk result (λ o. (r : Relations) (d : DocumentOf) → option_map (finding_view r) o ≡ first_found (first_lines r d (plain_view keywords.now) (same_view keywords.now) (lists_view keywords.now) (named_view keywords.now))) }
+) -> Result<Option<Box<Finding<'d>>>, AllocError>
+    ensures { IfOk result (λ o. (r : Relations) (d : DocumentOf) → option_map (held_view r) o ≡ first_found (first_lines r d (plain_view keywords.now) (same_view keywords.now) (lists_view keywords.now) (named_view keywords.now))) }
 {
-    match conditional_line(alloc, keywords) {
+    match conditional_line(alloc, keywords)? {
         Some(finding) => Ok(Some(finding)),
         None => {
             let found = from_null(alloc, keywords)?;
@@ -37,8 +36,11 @@ pub fn first_run<'d>(
 }
 
 // From null beside a type on.
-fn from_null<'d>(alloc: Global, keywords: &Keywords<'d>) -> Result<Option<Finding<'d>>, AllocError>
-    ensures { IfOk result (λ o. (r : Relations) (d : DocumentOf) → option_map (finding_view r) o ≡ first_found (drop 1 (first_lines r d (plain_view keywords.now) (same_view keywords.now) (lists_view keywords.now) (named_view keywords.now)))) }
+fn from_null<'d>(
+    alloc: Global,
+    keywords: &Keywords<'d>,
+) -> Result<Option<Box<Finding<'d>>>, AllocError>
+    ensures { IfOk result (λ o. (r : Relations) (d : DocumentOf) → option_map (held_view r) o ≡ first_found (drop 1 (first_lines r d (plain_view keywords.now) (same_view keywords.now) (lists_view keywords.now) (named_view keywords.now)))) }
 {
     match beside_null_line(alloc, keywords)? {
         Some(finding) => Ok(Some(finding)),
@@ -50,8 +52,11 @@ fn from_null<'d>(alloc: Global, keywords: &Keywords<'d>) -> Result<Option<Findin
 }
 
 // From texts on.
-fn from_texts<'d>(alloc: Global, keywords: &Keywords<'d>) -> Result<Option<Finding<'d>>, AllocError>
-    ensures { IfOk result (λ o. (r : Relations) (d : DocumentOf) → option_map (finding_view r) o ≡ first_found (drop 2 (first_lines r d (plain_view keywords.now) (same_view keywords.now) (lists_view keywords.now) (named_view keywords.now)))) }
+fn from_texts<'d>(
+    alloc: Global,
+    keywords: &Keywords<'d>,
+) -> Result<Option<Box<Finding<'d>>>, AllocError>
+    ensures { IfOk result (λ o. (r : Relations) (d : DocumentOf) → option_map (held_view r) o ≡ first_found (drop 2 (first_lines r d (plain_view keywords.now) (same_view keywords.now) (lists_view keywords.now) (named_view keywords.now)))) }
 {
     match text_line(alloc, keywords)? {
         Some(finding) => Ok(Some(finding)),
@@ -66,8 +71,8 @@ fn from_texts<'d>(alloc: Global, keywords: &Keywords<'d>) -> Result<Option<Findi
 fn from_untyped_texts<'d>(
     alloc: Global,
     keywords: &Keywords<'d>,
-) -> Result<Option<Finding<'d>>, AllocError>
-    ensures { IfOk result (λ o. (r : Relations) (d : DocumentOf) → option_map (finding_view r) o ≡ first_found (drop 3 (first_lines r d (plain_view keywords.now) (same_view keywords.now) (lists_view keywords.now) (named_view keywords.now)))) }
+) -> Result<Option<Box<Finding<'d>>>, AllocError>
+    ensures { IfOk result (λ o. (r : Relations) (d : DocumentOf) → option_map (held_view r) o ≡ first_found (drop 3 (first_lines r d (plain_view keywords.now) (same_view keywords.now) (lists_view keywords.now) (named_view keywords.now)))) }
 {
     match untyped_text_line(alloc, keywords)? {
         Some(finding) => Ok(Some(finding)),
@@ -83,8 +88,8 @@ pub fn second_run<'d>(
     alloc: Global,
     document: &Document,
     keywords: &Keywords<'d>,
-) -> Result<Option<Finding<'d>>, AllocError>
-    ensures { IfOk result (λ o. (r : Relations) → option_map (finding_view r) o ≡ first_found (second_lines r (document_seen document.now) (plain_view keywords.now) (same_view keywords.now) (lists_view keywords.now) (named_view keywords.now))) }
+) -> Result<Option<Box<Finding<'d>>>, AllocError>
+    ensures { IfOk result (λ o. (r : Relations) → option_map (held_view r) o ≡ first_found (second_lines r (document_seen document.now) (plain_view keywords.now) (same_view keywords.now) (lists_view keywords.now) (named_view keywords.now))) }
 {
     match constant_text_line(alloc, keywords)? {
         Some(finding) => Ok(Some(finding)),
@@ -100,8 +105,8 @@ fn from_integers<'d>(
     alloc: Global,
     document: &Document,
     keywords: &Keywords<'d>,
-) -> Result<Option<Finding<'d>>, AllocError>
-    ensures { IfOk result (λ o. (r : Relations) → option_map (finding_view r) o ≡ first_found (drop 1 (second_lines r (document_seen document.now) (plain_view keywords.now) (same_view keywords.now) (lists_view keywords.now) (named_view keywords.now)))) }
+) -> Result<Option<Box<Finding<'d>>>, AllocError>
+    ensures { IfOk result (λ o. (r : Relations) → option_map (held_view r) o ≡ first_found (drop 1 (second_lines r (document_seen document.now) (plain_view keywords.now) (same_view keywords.now) (lists_view keywords.now) (named_view keywords.now)))) }
 {
     match integer_line(alloc, keywords)? {
         Some(finding) => Ok(Some(finding)),
@@ -117,8 +122,8 @@ fn from_booleans<'d>(
     alloc: Global,
     document: &Document,
     keywords: &Keywords<'d>,
-) -> Result<Option<Finding<'d>>, AllocError>
-    ensures { IfOk result (λ o. (r : Relations) → option_map (finding_view r) o ≡ first_found (drop 2 (second_lines r (document_seen document.now) (plain_view keywords.now) (same_view keywords.now) (lists_view keywords.now) (named_view keywords.now)))) }
+) -> Result<Option<Box<Finding<'d>>>, AllocError>
+    ensures { IfOk result (λ o. (r : Relations) → option_map (held_view r) o ≡ first_found (drop 2 (second_lines r (document_seen document.now) (plain_view keywords.now) (same_view keywords.now) (lists_view keywords.now) (named_view keywords.now)))) }
 {
     match boolean_line(alloc, keywords)? {
         Some(finding) => Ok(Some(finding)),
@@ -134,8 +139,8 @@ fn from_objects<'d>(
     alloc: Global,
     document: &Document,
     keywords: &Keywords<'d>,
-) -> Result<Option<Finding<'d>>, AllocError>
-    ensures { IfOk result (λ o. (r : Relations) → option_map (finding_view r) o ≡ first_found (drop 3 (second_lines r (document_seen document.now) (plain_view keywords.now) (same_view keywords.now) (lists_view keywords.now) (named_view keywords.now)))) }
+) -> Result<Option<Box<Finding<'d>>>, AllocError>
+    ensures { IfOk result (λ o. (r : Relations) → option_map (held_view r) o ≡ first_found (drop 3 (second_lines r (document_seen document.now) (plain_view keywords.now) (same_view keywords.now) (lists_view keywords.now) (named_view keywords.now)))) }
 {
     match object_line(alloc, document, keywords)? {
         Some(finding) => Ok(Some(finding)),
@@ -150,8 +155,8 @@ fn from_objects<'d>(
 pub fn third_run<'d>(
     alloc: Global,
     keywords: &Keywords<'d>,
-) -> Result<Option<Finding<'d>>, AllocError>
-    ensures { IfOk result (λ o. (r : Relations) (d : DocumentOf) → option_map (finding_view r) o ≡ first_found (third_lines r d (plain_view keywords.now) (same_view keywords.now) (lists_view keywords.now) (named_view keywords.now))) }
+) -> Result<Option<Box<Finding<'d>>>, AllocError>
+    ensures { IfOk result (λ o. (r : Relations) (d : DocumentOf) → option_map (held_view r) o ≡ first_found (third_lines r d (plain_view keywords.now) (same_view keywords.now) (lists_view keywords.now) (named_view keywords.now))) }
 {
     match array_line(alloc, keywords)? {
         Some(finding) => Ok(Some(finding)),
@@ -166,8 +171,8 @@ pub fn third_run<'d>(
 fn from_untyped_arrays<'d>(
     alloc: Global,
     keywords: &Keywords<'d>,
-) -> Result<Option<Finding<'d>>, AllocError>
-    ensures { IfOk result (λ o. (r : Relations) (d : DocumentOf) → option_map (finding_view r) o ≡ first_found (drop 1 (third_lines r d (plain_view keywords.now) (same_view keywords.now) (lists_view keywords.now) (named_view keywords.now)))) }
+) -> Result<Option<Box<Finding<'d>>>, AllocError>
+    ensures { IfOk result (λ o. (r : Relations) (d : DocumentOf) → option_map (held_view r) o ≡ first_found (drop 1 (third_lines r d (plain_view keywords.now) (same_view keywords.now) (lists_view keywords.now) (named_view keywords.now)))) }
 {
     match untyped_array_line(alloc, keywords)? {
         Some(finding) => Ok(Some(finding)),
@@ -182,10 +187,10 @@ fn from_untyped_arrays<'d>(
 fn from_anything<'d>(
     alloc: Global,
     keywords: &Keywords<'d>,
-) -> Result<Option<Finding<'d>>, AllocError>
-    ensures { IfOk result (λ o. (r : Relations) (d : DocumentOf) → option_map (finding_view r) o ≡ first_found (drop 2 (third_lines r d (plain_view keywords.now) (same_view keywords.now) (lists_view keywords.now) (named_view keywords.now)))) }
+) -> Result<Option<Box<Finding<'d>>>, AllocError>
+    ensures { IfOk result (λ o. (r : Relations) (d : DocumentOf) → option_map (held_view r) o ≡ first_found (drop 2 (third_lines r d (plain_view keywords.now) (same_view keywords.now) (lists_view keywords.now) (named_view keywords.now)))) }
 {
-    match any_line(alloc, keywords) {
+    match any_line(alloc, keywords)? {
         Some(finding) => Ok(Some(finding)),
         None => {
             let found = from_null_alone(alloc, keywords)?;
@@ -198,13 +203,13 @@ fn from_anything<'d>(
 fn from_null_alone<'d>(
     alloc: Global,
     keywords: &Keywords<'d>,
-) -> Result<Option<Finding<'d>>, AllocError>
-    ensures { IfOk result (λ o. (r : Relations) (d : DocumentOf) → option_map (finding_view r) o ≡ first_found (drop 3 (third_lines r d (plain_view keywords.now) (same_view keywords.now) (lists_view keywords.now) (named_view keywords.now)))) }
+) -> Result<Option<Box<Finding<'d>>>, AllocError>
+    ensures { IfOk result (λ o. (r : Relations) (d : DocumentOf) → option_map (held_view r) o ≡ first_found (drop 3 (third_lines r d (plain_view keywords.now) (same_view keywords.now) (lists_view keywords.now) (named_view keywords.now)))) }
 {
-    match null_line(alloc, keywords) {
+    match null_line(alloc, keywords)? {
         Some(finding) => Ok(Some(finding)),
         None => {
-            let found = reference_line(alloc, keywords);
+            let found = reference_line(alloc, keywords)?;
             Ok(found)
         }
     }
@@ -214,8 +219,8 @@ fn from_null_alone<'d>(
 pub fn last_run<'d>(
     alloc: Global,
     keywords: &Keywords<'d>,
-) -> Result<Option<Finding<'d>>, AllocError>
-    ensures { IfOk result (λ o. (r : Relations) (d : DocumentOf) → option_map (finding_view r) o ≡ first_found (last_lines r d (plain_view keywords.now) (same_view keywords.now) (lists_view keywords.now) (named_view keywords.now))) }
+) -> Result<Option<Box<Finding<'d>>>, AllocError>
+    ensures { IfOk result (λ o. (r : Relations) (d : DocumentOf) → option_map (held_view r) o ≡ first_found (last_lines r d (plain_view keywords.now) (same_view keywords.now) (lists_view keywords.now) (named_view keywords.now))) }
 {
     match several_line(alloc, keywords)? {
         Some(finding) => Ok(Some(finding)),
@@ -230,8 +235,8 @@ pub fn last_run<'d>(
 fn from_constants<'d>(
     alloc: Global,
     keywords: &Keywords<'d>,
-) -> Result<Option<Finding<'d>>, AllocError>
-    ensures { IfOk result (λ o. (r : Relations) (d : DocumentOf) → option_map (finding_view r) o ≡ first_found (drop 1 (last_lines r d (plain_view keywords.now) (same_view keywords.now) (lists_view keywords.now) (named_view keywords.now)))) }
+) -> Result<Option<Box<Finding<'d>>>, AllocError>
+    ensures { IfOk result (λ o. (r : Relations) (d : DocumentOf) → option_map (held_view r) o ≡ first_found (drop 1 (last_lines r d (plain_view keywords.now) (same_view keywords.now) (lists_view keywords.now) (named_view keywords.now)))) }
 {
     match constant_line(alloc, keywords)? {
         Some(finding) => Ok(Some(finding)),
@@ -246,8 +251,8 @@ fn from_constants<'d>(
 fn from_every_type<'d>(
     alloc: Global,
     keywords: &Keywords<'d>,
-) -> Result<Option<Finding<'d>>, AllocError>
-    ensures { IfOk result (λ o. (r : Relations) (d : DocumentOf) → option_map (finding_view r) o ≡ first_found (drop 2 (last_lines r d (plain_view keywords.now) (same_view keywords.now) (lists_view keywords.now) (named_view keywords.now)))) }
+) -> Result<Option<Box<Finding<'d>>>, AllocError>
+    ensures { IfOk result (λ o. (r : Relations) (d : DocumentOf) → option_map (held_view r) o ≡ first_found (drop 2 (last_lines r d (plain_view keywords.now) (same_view keywords.now) (lists_view keywords.now) (named_view keywords.now)))) }
 {
     match every_type_line(alloc, keywords)? {
         Some(finding) => Ok(Some(finding)),
@@ -262,8 +267,8 @@ fn from_every_type<'d>(
 fn from_only_type<'d>(
     alloc: Global,
     keywords: &Keywords<'d>,
-) -> Result<Option<Finding<'d>>, AllocError>
-    ensures { IfOk result (λ o. (r : Relations) (d : DocumentOf) → option_map (finding_view r) o ≡ first_found (drop 3 (last_lines r d (plain_view keywords.now) (same_view keywords.now) (lists_view keywords.now) (named_view keywords.now)))) }
+) -> Result<Option<Box<Finding<'d>>>, AllocError>
+    ensures { IfOk result (λ o. (r : Relations) (d : DocumentOf) → option_map (held_view r) o ≡ first_found (drop 3 (last_lines r d (plain_view keywords.now) (same_view keywords.now) (lists_view keywords.now) (named_view keywords.now)))) }
 {
     match only_type_line(alloc, keywords)? {
         Some(finding) => Ok(Some(finding)),

@@ -11,8 +11,7 @@ ghost use Rattle.convert_defs.specs.Scalars.{patterns_in, string_finding as stri
 ghost use Rattle.convert_defs.specs.Standing.{less_enum as less_enum_of};
 ghost use Rattle.convert_defs.specs.Table.{untyped, listed, constant_of, constant_finding as constant_finding_of, no_others as no_others_of};
 ghost use Rattle.row_types.specs.Given.{plain_view, same_view, lists_view, named_view};
-ghost use Rattle.row_types.specs.View.{finding_view};
-ghost use Rattle.type_rows.specs.Line.{line};
+ghost use Rattle.type_rows.specs.Line.{held_view, line};
 
 use integer_rows::integer_finding;
 use row_types::{
@@ -25,17 +24,18 @@ use scalar_rows::{
 use schema_types::InstanceType;
 use serde_json::Value;
 use std::alloc::{AllocError, Global};
+use type_rows::hold;
 
 /// Texts.
 pub fn text_line<'d>(
     alloc: Global,
     keywords: &Keywords<'d>,
-) -> Result<Option<Finding<'d>>, AllocError>
-    ensures { IfOk result (λ o. (r : Relations) → option_map (finding_view r) o ≡ line (has_type_of InstanceType.Text (plain_view keywords.now).types && is_bare_of (plain_view keywords.now) (same_view keywords.now)) (asking (patterns_in (plain_view keywords.now)) (string_finding_of (plain_view keywords.now)))) }
+) -> Result<Option<Box<Finding<'d>>>, AllocError>
+    ensures { IfOk result (λ o. (r : Relations) → option_map (held_view r) o ≡ line (has_type_of InstanceType.Text (plain_view keywords.now).types && is_bare_of (plain_view keywords.now) (same_view keywords.now)) (asking (patterns_in (plain_view keywords.now)) (string_finding_of (plain_view keywords.now)))) }
 {
     if has_type(keywords, InstanceType::Text) && is_bare(keywords) {
         let finding = string_finding(alloc, Vec::new(alloc), keywords)?;
-        Ok(Some(finding))
+        Ok(Some(hold(alloc, finding)?))
     } else {
         Ok(None)
     }
@@ -56,15 +56,15 @@ fn is_untyped_text(keywords: &Keywords<'_>) -> bool
 pub fn untyped_text_line<'d>(
     alloc: Global,
     keywords: &Keywords<'d>,
-) -> Result<Option<Finding<'d>>, AllocError>
-    ensures { IfOk result (λ o. (r : Relations) → option_map (finding_view r) o ≡ line (is_none (plain_view keywords.now).types && is_some (plain_view keywords.now).texts && is_none (plain_view keywords.now).numbers && is_bare_of (plain_view keywords.now) (same_view keywords.now) && without_lists (lists_view keywords.now) && without_named (named_view keywords.now)) (asking (patterns_in (plain_view keywords.now)) (add_notes untyped (string_finding_of (plain_view keywords.now))))) }
+) -> Result<Option<Box<Finding<'d>>>, AllocError>
+    ensures { IfOk result (λ o. (r : Relations) → option_map (held_view r) o ≡ line (is_none (plain_view keywords.now).types && is_some (plain_view keywords.now).texts && is_none (plain_view keywords.now).numbers && is_bare_of (plain_view keywords.now) (same_view keywords.now) && without_lists (lists_view keywords.now) && without_named (named_view keywords.now)) (asking (patterns_in (plain_view keywords.now)) (add_notes untyped (string_finding_of (plain_view keywords.now))))) }
 {
     if !is_untyped_text(keywords) {
         return Ok(None);
     }
     let notes = with_note(Vec::new(alloc), true, Way::Narrowed, NoteKind::Untyped)?;
     let finding = string_finding(alloc, notes, keywords)?;
-    Ok(Some(finding))
+    Ok(Some(hold(alloc, finding)?))
 }
 
 fn is_enumerated_text(keywords: &Keywords<'_>) -> bool
@@ -81,8 +81,8 @@ fn is_enumerated_text(keywords: &Keywords<'_>) -> bool
 pub fn enumerated_line<'d>(
     alloc: Global,
     keywords: &Keywords<'d>,
-) -> Result<Option<Finding<'d>>, AllocError>
-    ensures { IfOk result (λ o. (r : Relations) → option_map (finding_view r) o ≡ line (has_type_of InstanceType.Text (plain_view keywords.now).types && is_some (plain_view keywords.now).enum_values && is_none (plain_view keywords.now).const_value && is_none (plain_view keywords.now).reference && without_same (same_view keywords.now)) (asking (patterns_in (plain_view keywords.now)) (enumerated_of r (plain_view keywords.now) (listed (plain_view keywords.now).enum_values)))) }
+) -> Result<Option<Box<Finding<'d>>>, AllocError>
+    ensures { IfOk result (λ o. (r : Relations) → option_map (held_view r) o ≡ line (has_type_of InstanceType.Text (plain_view keywords.now).types && is_some (plain_view keywords.now).enum_values && is_none (plain_view keywords.now).const_value && is_none (plain_view keywords.now).reference && without_same (same_view keywords.now)) (asking (patterns_in (plain_view keywords.now)) (enumerated_of r (plain_view keywords.now) (listed (plain_view keywords.now).enum_values)))) }
 {
     if !is_enumerated_text(keywords) {
         return Ok(None);
@@ -90,7 +90,7 @@ pub fn enumerated_line<'d>(
     match keywords.enum_values {
         Some(values) => {
             let finding = enumerated(alloc, keywords, values)?;
-            Ok(Some(asking_patterns(finding, keywords)))
+            Ok(Some(hold(alloc, asking_patterns(finding, keywords))?))
         }
         None => Ok(None),
     }
@@ -114,15 +114,15 @@ fn constant_text<'d>(
     keywords: &Keywords<'d>,
     constant: &'d Value,
     text: &'d str,
-) -> Result<Option<Finding<'d>>, AllocError>
+) -> Result<Option<Box<Finding<'d>>>, AllocError>
     requires { kept_view constant.now ≡ text_value text.now }
-    ensures { IfOk result (λ o. (r : Relations) → option_map (finding_view r) o ≡ line ((is_none (plain_view keywords.now).types || has_type_of InstanceType.Text (plain_view keywords.now).types) && is_none (plain_view keywords.now).reference && without_same (same_view keywords.now)) (asking (patterns_in (plain_view keywords.now)) (constant_finding_of r (plain_view keywords.now) (Some text.now)))) }
+    ensures { IfOk result (λ o. (r : Relations) → option_map (held_view r) o ≡ line ((is_none (plain_view keywords.now).types || has_type_of InstanceType.Text (plain_view keywords.now).types) && is_none (plain_view keywords.now).reference && without_same (same_view keywords.now)) (asking (patterns_in (plain_view keywords.now)) (constant_finding_of r (plain_view keywords.now) (Some text.now)))) }
 {
     if !is_constant_text(keywords) {
         return Ok(None);
     }
     let finding = constant_finding(alloc, keywords, constant, text)?;
-    Ok(Some(asking_patterns(finding, keywords)))
+    Ok(Some(hold(alloc, asking_patterns(finding, keywords))?))
 }
 
 #[tactic(auto, using(enum_shapes::proofs::Seen::text_seen))]
@@ -137,8 +137,8 @@ fn text_in(value: &Value) -> Option<&str>
 pub fn constant_text_line<'d>(
     alloc: Global,
     keywords: &Keywords<'d>,
-) -> Result<Option<Finding<'d>>, AllocError>
-    ensures { IfOk result (λ o. (r : Relations) → option_map (finding_view r) o ≡ line (is_some (constant_of (plain_view keywords.now)) && (is_none (plain_view keywords.now).types || has_type_of InstanceType.Text (plain_view keywords.now).types) && is_none (plain_view keywords.now).reference && without_same (same_view keywords.now)) (asking (patterns_in (plain_view keywords.now)) (constant_finding_of r (plain_view keywords.now) (constant_of (plain_view keywords.now))))) }
+) -> Result<Option<Box<Finding<'d>>>, AllocError>
+    ensures { IfOk result (λ o. (r : Relations) → option_map (held_view r) o ≡ line (is_some (constant_of (plain_view keywords.now)) && (is_none (plain_view keywords.now).types || has_type_of InstanceType.Text (plain_view keywords.now).types) && is_none (plain_view keywords.now).reference && without_same (same_view keywords.now)) (asking (patterns_in (plain_view keywords.now)) (constant_finding_of r (plain_view keywords.now) (constant_of (plain_view keywords.now))))) }
 {
     match keywords.const_value {
         Some(constant) => match text_in(constant) {
@@ -156,12 +156,12 @@ pub fn constant_text_line<'d>(
 pub fn integer_line<'d>(
     alloc: Global,
     keywords: &Keywords<'d>,
-) -> Result<Option<Finding<'d>>, AllocError>
-    ensures { IfOk result (λ o. (r : Relations) → option_map (finding_view r) o ≡ line (has_type_of InstanceType.Integer (plain_view keywords.now).types && is_bare_of (plain_view keywords.now) (same_view keywords.now)) (noted_as (integer_notes (plain_view keywords.now)) (leaf_row (integer_entry (integer_of (plain_view keywords.now)))))) }
+) -> Result<Option<Box<Finding<'d>>>, AllocError>
+    ensures { IfOk result (λ o. (r : Relations) → option_map (held_view r) o ≡ line (has_type_of InstanceType.Integer (plain_view keywords.now).types && is_bare_of (plain_view keywords.now) (same_view keywords.now)) (noted_as (integer_notes (plain_view keywords.now)) (leaf_row (integer_entry (integer_of (plain_view keywords.now)))))) }
 {
     if has_type(keywords, InstanceType::Integer) && is_bare(keywords) {
         let finding = integer_finding(alloc, keywords)?;
-        Ok(Some(finding))
+        Ok(Some(hold(alloc, finding)?))
     } else {
         Ok(None)
     }
@@ -181,14 +181,14 @@ fn is_boolean(keywords: &Keywords<'_>) -> bool
 pub fn boolean_line<'d>(
     alloc: Global,
     keywords: &Keywords<'d>,
-) -> Result<Option<Finding<'d>>, AllocError>
-    ensures { IfOk result (λ o. (r : Relations) → option_map (finding_view r) o ≡ line (has_type_of InstanceType.Boolean (plain_view keywords.now).types && is_none (plain_view keywords.now).format && is_none (plain_view keywords.now).const_value && is_none (plain_view keywords.now).reference && without_same (same_view keywords.now)) (boolean_finding_of (plain_view keywords.now).enum_values)) }
+) -> Result<Option<Box<Finding<'d>>>, AllocError>
+    ensures { IfOk result (λ o. (r : Relations) → option_map (held_view r) o ≡ line (has_type_of InstanceType.Boolean (plain_view keywords.now).types && is_none (plain_view keywords.now).format && is_none (plain_view keywords.now).const_value && is_none (plain_view keywords.now).reference && without_same (same_view keywords.now)) (boolean_finding_of (plain_view keywords.now).enum_values)) }
 {
     if !is_boolean(keywords) {
         return Ok(None);
     }
     let finding = boolean_finding(alloc, keywords.enum_values)?;
-    Ok(Some(finding))
+    Ok(Some(hold(alloc, finding)?))
 }
 
 fn is_listed_alone(keywords: &Keywords<'_>) -> bool
@@ -204,8 +204,8 @@ fn is_listed_alone(keywords: &Keywords<'_>) -> bool
 pub fn listed_line<'d>(
     alloc: Global,
     keywords: &Keywords<'d>,
-) -> Result<Option<Finding<'d>>, AllocError>
-    ensures { IfOk result (λ o. (r : Relations) → option_map (finding_view r) o ≡ line (is_some (plain_view keywords.now).enum_values && is_none (plain_view keywords.now).types && no_others_of (less_enum_of (plain_view keywords.now)) (lists_view keywords.now) (named_view keywords.now) && without_same (same_view keywords.now)) (listed_alone_of (plain_view keywords.now) (listed (plain_view keywords.now).enum_values))) }
+) -> Result<Option<Box<Finding<'d>>>, AllocError>
+    ensures { IfOk result (λ o. (r : Relations) → option_map (held_view r) o ≡ line (is_some (plain_view keywords.now).enum_values && is_none (plain_view keywords.now).types && no_others_of (less_enum_of (plain_view keywords.now)) (lists_view keywords.now) (named_view keywords.now) && without_same (same_view keywords.now)) (listed_alone_of (plain_view keywords.now) (listed (plain_view keywords.now).enum_values))) }
 {
     if !is_listed_alone(keywords) {
         return Ok(None);
@@ -213,7 +213,7 @@ pub fn listed_line<'d>(
     match keywords.enum_values {
         Some(values) => {
             let finding = listed_alone(alloc, keywords, values)?;
-            Ok(Some(finding))
+            Ok(Some(hold(alloc, finding)?))
         }
         None => Ok(None),
     }

@@ -2,9 +2,8 @@
 ghost use Rattle.std.specs.Prelude.{◌≡◌, IfOk, drop, option_map};
 ghost use Rattle.schema_defs.specs.Texts.{Relations};
 ghost use Rattle.schema_tree.specs.Document.{view as document_seen};
-ghost use Rattle.type_rows.specs.Line.{first_found};
+ghost use Rattle.type_rows.specs.Line.{first_found, held_view};
 ghost use Rattle.row_types.specs.Given.{plain_view, same_view, lists_view, named_view};
-ghost use Rattle.row_types.specs.View.{finding_view};
 ghost use Rattle.schema_rows.specs.Runs.{fourth_lines};
 
 use crate::several::subschema_line;
@@ -19,10 +18,10 @@ pub fn fourth_run<'d>(
     alloc: Global,
     document: &'d Document,
     keywords: &Keywords<'d>,
-) -> Result<Option<Finding<'d>>, AllocError>
-    ensures { IfOk result (λ o. (r : Relations) → option_map (finding_view r) o ≡ first_found (fourth_lines r (document_seen document.now) (plain_view keywords.now) (same_view keywords.now) (lists_view keywords.now) (named_view keywords.now))) }
+) -> Result<Option<Box<Finding<'d>>>, AllocError>
+    ensures { IfOk result (λ o. (r : Relations) → option_map (held_view r) o ≡ first_found (fourth_lines r (document_seen document.now) (plain_view keywords.now) (same_view keywords.now) (lists_view keywords.now) (named_view keywords.now))) }
 {
-    match reference_of_type_line(alloc, document, keywords) {
+    match reference_of_type_line(alloc, document, keywords)? {
         Some(finding) => Ok(Some(finding)),
         None => {
             let found = from_references(alloc, document, keywords)?;
@@ -36,8 +35,8 @@ fn from_references<'d>(
     alloc: Global,
     document: &'d Document,
     keywords: &Keywords<'d>,
-) -> Result<Option<Finding<'d>>, AllocError>
-    ensures { IfOk result (λ o. (r : Relations) → option_map (finding_view r) o ≡ first_found (drop 1 (fourth_lines r (document_seen document.now) (plain_view keywords.now) (same_view keywords.now) (lists_view keywords.now) (named_view keywords.now)))) }
+) -> Result<Option<Box<Finding<'d>>>, AllocError>
+    ensures { IfOk result (λ o. (r : Relations) → option_map (held_view r) o ≡ first_found (drop 1 (fourth_lines r (document_seen document.now) (plain_view keywords.now) (same_view keywords.now) (lists_view keywords.now) (named_view keywords.now)))) }
 {
     match reference_with_others_line(alloc, document, keywords)? {
         Some(finding) => Ok(Some(finding)),
@@ -53,8 +52,8 @@ fn from_allowed<'d>(
     alloc: Global,
     document: &'d Document,
     keywords: &Keywords<'d>,
-) -> Result<Option<Finding<'d>>, AllocError>
-    ensures { IfOk result (λ o. (r : Relations) → option_map (finding_view r) o ≡ first_found (drop 2 (fourth_lines r (document_seen document.now) (plain_view keywords.now) (same_view keywords.now) (lists_view keywords.now) (named_view keywords.now)))) }
+) -> Result<Option<Box<Finding<'d>>>, AllocError>
+    ensures { IfOk result (λ o. (r : Relations) → option_map (held_view r) o ≡ first_found (drop 2 (fourth_lines r (document_seen document.now) (plain_view keywords.now) (same_view keywords.now) (lists_view keywords.now) (named_view keywords.now)))) }
 {
     match allowed_line(alloc, keywords)? {
         Some(finding) => Ok(Some(finding)),
@@ -70,8 +69,8 @@ fn from_listed<'d>(
     alloc: Global,
     document: &'d Document,
     keywords: &Keywords<'d>,
-) -> Result<Option<Finding<'d>>, AllocError>
-    ensures { IfOk result (λ o. (r : Relations) → option_map (finding_view r) o ≡ first_found (drop 3 (fourth_lines r (document_seen document.now) (plain_view keywords.now) (same_view keywords.now) (lists_view keywords.now) (named_view keywords.now)))) }
+) -> Result<Option<Box<Finding<'d>>>, AllocError>
+    ensures { IfOk result (λ o. (r : Relations) → option_map (held_view r) o ≡ first_found (drop 3 (fourth_lines r (document_seen document.now) (plain_view keywords.now) (same_view keywords.now) (lists_view keywords.now) (named_view keywords.now)))) }
 {
     match listed_line(alloc, keywords)? {
         Some(finding) => Ok(Some(finding)),

@@ -8,12 +8,13 @@ ghost use Rattle.convert_defs.specs.Scalars.{wanted_of};
 ghost use Rattle.convert_defs.specs.Table.{subschema_finding as subschema_finding_of, finding_or, no_others as no_others_of};
 ghost use Rattle.row_types.specs.Given.{plain_view, same_view, lists_view, named_view};
 ghost use Rattle.row_types.specs.View.{note_view, finding_view};
-ghost use Rattle.type_rows.specs.Line.{line};
+ghost use Rattle.type_rows.specs.Line.{held_view, line};
 
 use row_types::{Finding, Keywords, Note, NoteKind, Way, no_others, with_note};
 use schema_tree::Document;
 use std::alloc::{AllocError, Global};
 use subschema_rows::subschema_finding;
+use type_rows::hold;
 
 // The finding, with those notes before its own.
 fn after_notes<'d>(notes: Vec<Note<'d>>, finding: Finding<'d>) -> Result<Finding<'d>, AllocError>
@@ -55,8 +56,8 @@ pub fn subschema_line<'d>(
     alloc: Global,
     document: &Document,
     keywords: &Keywords<'d>,
-) -> Result<Option<Finding<'d>>, AllocError>
-    ensures { IfOk result (λ o. (r : Relations) → option_map (finding_view r) o ≡ line (is_some (subschema_finding_of (document_seen document.now) (wanted_of (plain_view keywords.now)) (same_view keywords.now)) && no_others_of (plain_view keywords.now) (lists_view keywords.now) (named_view keywords.now)) (add_notes (note_if (is_some (plain_view keywords.now).types) (here widened type_note)) (finding_or (subschema_finding_of (document_seen document.now) (wanted_of (plain_view keywords.now)) (same_view keywords.now))))) }
+) -> Result<Option<Box<Finding<'d>>>, AllocError>
+    ensures { IfOk result (λ o. (r : Relations) → option_map (held_view r) o ≡ line (is_some (subschema_finding_of (document_seen document.now) (wanted_of (plain_view keywords.now)) (same_view keywords.now)) && no_others_of (plain_view keywords.now) (lists_view keywords.now) (named_view keywords.now)) (add_notes (note_if (is_some (plain_view keywords.now).types) (here widened type_note)) (finding_or (subschema_finding_of (document_seen document.now) (wanted_of (plain_view keywords.now)) (same_view keywords.now))))) }
 {
     if !no_others(keywords) {
         return Ok(None);
@@ -65,7 +66,8 @@ pub fn subschema_line<'d>(
         Some(finding) => {
             let notes = type_notes(alloc, keywords)?;
             let noticed = after_notes(notes, finding)?;
-            Ok(Some(noticed))
+            let held = hold(alloc, noticed)?;
+            Ok(Some(held))
         }
         None => Ok(None),
     }

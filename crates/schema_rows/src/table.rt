@@ -7,6 +7,7 @@ ghost use Rattle.schema_types.specs.View.{schema_view, object_view};
 ghost use Rattle.convert_defs.specs.Table.{finding_of};
 ghost use Rattle.row_types.specs.Given.{plain_view, same_view, lists_view, named_view, source_view};
 ghost use Rattle.row_types.specs.View.{finding_view};
+ghost use Rattle.type_rows.specs.Line.{held_view};
 ghost use Rattle.schema_rows.specs.Runs.{by_runs, after_first, after_second, after_third, after_fourth};
 
 use crate::fourth::fourth_run;
@@ -15,6 +16,7 @@ use row_types::{Cause, Finding, Keywords, Leaf, Row, Source, keywords_of, plainl
 use schema_tree::{Document, Schema};
 use schema_types::SchemaObject;
 use std::alloc::{AllocError, Global};
+use type_rows::hold;
 
 /// What the first row of the table that fits makes of a schema: the row, the notes of the schema, the patterns that are
 /// asked first, and the branches. `AllocError` where memory runs out.
@@ -32,8 +34,8 @@ pub fn finding<'d>(
         }
         Source::Bool(b) => Ok(always(alloc, *b)),
         Source::Made(keywords) => {
-            let found = by_keywords(alloc, document, keywords)?;
-            Ok(found)
+            let held = by_keywords(alloc, document, keywords)?;
+            Ok(Box::into_inner(held))
         }
     }
 }
@@ -62,8 +64,8 @@ fn by_object<'d>(
     ensures { IfOk result (λ f. (r : Relations) → finding_view r f ≡ finding_of r (document_seen document.now) (object_view schema.now)) }
 {
     let keywords = keywords_of(schema);
-    let found = by_keywords(alloc, document, &keywords)?;
-    Ok(found)
+    let held = by_keywords(alloc, document, &keywords)?;
+    Ok(Box::into_inner(held))
 }
 
 fn always<'d>(alloc: Global, b: bool) -> Finding<'d>
@@ -80,8 +82,8 @@ fn by_keywords<'d>(
     alloc: Global,
     document: &'d Document,
     keywords: &Keywords<'d>,
-) -> Result<Finding<'d>, AllocError>
-    ensures { IfOk result (λ f. (r : Relations) → finding_view r f ≡ by_runs r (document_seen document.now) (plain_view keywords.now) (same_view keywords.now) (lists_view keywords.now) (named_view keywords.now)) }
+) -> Result<Box<Finding<'d>>, AllocError>
+    ensures { IfOk result (λ b. (r : Relations) → held_view r b ≡ by_runs r (document_seen document.now) (plain_view keywords.now) (same_view keywords.now) (lists_view keywords.now) (named_view keywords.now)) }
 {
     match first_run(alloc, keywords)? {
         Some(finding) => Ok(finding),
@@ -97,8 +99,8 @@ fn after_first_run<'d>(
     alloc: Global,
     document: &'d Document,
     keywords: &Keywords<'d>,
-) -> Result<Finding<'d>, AllocError>
-    ensures { IfOk result (λ f. (r : Relations) → finding_view r f ≡ after_first r (document_seen document.now) (plain_view keywords.now) (same_view keywords.now) (lists_view keywords.now) (named_view keywords.now)) }
+) -> Result<Box<Finding<'d>>, AllocError>
+    ensures { IfOk result (λ b. (r : Relations) → held_view r b ≡ after_first r (document_seen document.now) (plain_view keywords.now) (same_view keywords.now) (lists_view keywords.now) (named_view keywords.now)) }
 {
     match second_run(alloc, document, keywords)? {
         Some(finding) => Ok(finding),
@@ -114,8 +116,8 @@ fn after_second_run<'d>(
     alloc: Global,
     document: &'d Document,
     keywords: &Keywords<'d>,
-) -> Result<Finding<'d>, AllocError>
-    ensures { IfOk result (λ f. (r : Relations) → finding_view r f ≡ after_second r (document_seen document.now) (plain_view keywords.now) (same_view keywords.now) (lists_view keywords.now) (named_view keywords.now)) }
+) -> Result<Box<Finding<'d>>, AllocError>
+    ensures { IfOk result (λ b. (r : Relations) → held_view r b ≡ after_second r (document_seen document.now) (plain_view keywords.now) (same_view keywords.now) (lists_view keywords.now) (named_view keywords.now)) }
 {
     match third_run(alloc, keywords)? {
         Some(finding) => Ok(finding),
@@ -131,8 +133,8 @@ fn after_third_run<'d>(
     alloc: Global,
     document: &'d Document,
     keywords: &Keywords<'d>,
-) -> Result<Finding<'d>, AllocError>
-    ensures { IfOk result (λ f. (r : Relations) → finding_view r f ≡ after_third r (document_seen document.now) (plain_view keywords.now) (same_view keywords.now) (lists_view keywords.now) (named_view keywords.now)) }
+) -> Result<Box<Finding<'d>>, AllocError>
+    ensures { IfOk result (λ b. (r : Relations) → held_view r b ≡ after_third r (document_seen document.now) (plain_view keywords.now) (same_view keywords.now) (lists_view keywords.now) (named_view keywords.now)) }
 {
     match fourth_run(alloc, document, keywords)? {
         Some(finding) => Ok(finding),
@@ -144,11 +146,17 @@ fn after_third_run<'d>(
 }
 
 // After the fourth run.
-fn after_fourth_run<'d>(alloc: Global, keywords: &Keywords<'d>) -> Result<Finding<'d>, AllocError>
-    ensures { IfOk result (λ f. (r : Relations) (d : DocumentOf) → finding_view r f ≡ after_fourth r d (plain_view keywords.now) (same_view keywords.now) (lists_view keywords.now) (named_view keywords.now)) }
+fn after_fourth_run<'d>(
+    alloc: Global,
+    keywords: &Keywords<'d>,
+) -> Result<Box<Finding<'d>>, AllocError>
+    ensures { IfOk result (λ b. (r : Relations) (d : DocumentOf) → held_view r b ≡ after_fourth r d (plain_view keywords.now) (same_view keywords.now) (lists_view keywords.now) (named_view keywords.now)) }
 {
     match last_run(alloc, keywords)? {
         Some(finding) => Ok(finding),
-        None => Ok(refused(alloc, Cause::Mix)),
+        None => {
+            let held = hold(alloc, refused(alloc, Cause::Mix))?;
+            Ok(held)
+        }
     }
 }

@@ -11,9 +11,10 @@ ghost use Rattle.convert_defs.specs.Row.{plainly as plainly_as, as_it_is_row, en
 ghost use Rattle.convert_defs.specs.Standing.{less_types as less_types_of};
 ghost use Rattle.convert_defs.specs.Table.{type_among as type_among_of, every_type, only_type as only_type_of, with_type, many_of, of_kinds as of_kinds_in, type_variant as type_variant_of, type_variants as type_variants_of};
 ghost use Rattle.row_types.specs.Given.{plain_view, same_view, lists_view, named_view, keywords_view};
-ghost use Rattle.row_types.specs.View.{row_view, variant_view, finding_view};
-ghost use Rattle.type_rows.specs.Line.{line, variant_if};
+ghost use Rattle.row_types.specs.View.{row_view, variant_view};
+ghost use Rattle.type_rows.specs.Line.{held_view, line, variant_if};
 
+use crate::line::hold;
 use row_types::{
     Closing, Finding, GivenTypes, Keywords, Part, Row, Source, TagRow, VariantBody, VariantRow,
     is_bare, less_types, made, no_keyword, of_type, only_type, plainly, type_among,
@@ -49,27 +50,27 @@ fn has_every_type(keywords: &Keywords<'_>) -> bool
 pub fn every_type_line<'d>(
     alloc: Global,
     keywords: &Keywords<'d>,
-) -> Result<Option<Finding<'d>>, AllocError>
-    ensures { IfOk result (λ o. (r : Relations) → option_map (finding_view r) o ≡ line (list_all (λ k. type_among_of k (plain_view keywords.now).types) every_type) (plainly_as (as_it_is_row (made_of (object (less_types_of (plain_view keywords.now)) (same_view keywords.now) (lists_view keywords.now) (named_view keywords.now)))))) }
+) -> Result<Option<Box<Finding<'d>>>, AllocError>
+    ensures { IfOk result (λ o. (r : Relations) → option_map (held_view r) o ≡ line (list_all (λ k. type_among_of k (plain_view keywords.now).types) every_type) (plainly_as (as_it_is_row (made_of (object (less_types_of (plain_view keywords.now)) (same_view keywords.now) (lists_view keywords.now) (named_view keywords.now)))))) }
 {
     if !has_every_type(keywords) {
         return Ok(None);
     }
     let part = made(alloc, less_types(keywords))?;
-    Ok(Some(plainly(alloc, Row::AsItIs(part))))
+    Ok(Some(hold(alloc, plainly(alloc, Row::AsItIs(part)))?))
 }
 
 /// A list of one type: the schema with that type.
 pub fn only_type_line<'d>(
     alloc: Global,
     keywords: &Keywords<'d>,
-) -> Result<Option<Finding<'d>>, AllocError>
-    ensures { IfOk result (λ o. (r : Relations) → option_map (finding_view r) o ≡ line (is_some (only_type_of (plain_view keywords.now).types)) (plainly_as (with_type (plain_view keywords.now) (same_view keywords.now) (lists_view keywords.now) (named_view keywords.now) (only_type_of (plain_view keywords.now).types)))) }
+) -> Result<Option<Box<Finding<'d>>>, AllocError>
+    ensures { IfOk result (λ o. (r : Relations) → option_map (held_view r) o ≡ line (is_some (only_type_of (plain_view keywords.now).types)) (plainly_as (with_type (plain_view keywords.now) (same_view keywords.now) (lists_view keywords.now) (named_view keywords.now) (only_type_of (plain_view keywords.now).types)))) }
 {
     match only_type(keywords) {
         Some(kind) => {
             let part = made(alloc, of_type(keywords, kind))?;
-            Ok(Some(plainly(alloc, Row::AsItIs(part))))
+            Ok(Some(hold(alloc, plainly(alloc, Row::AsItIs(part)))?))
         }
         None => Ok(None),
     }
@@ -169,22 +170,20 @@ fn has_many_types(keywords: &Keywords<'_>) -> bool
 pub fn one_of_types_line<'d>(
     alloc: Global,
     keywords: &Keywords<'d>,
-) -> Result<Option<Finding<'d>>, AllocError>
-    ensures { IfOk result (λ o. (r : Relations) → option_map (finding_view r) o ≡ line (is_some (many_of (plain_view keywords.now).types) && is_bare_of (plain_view keywords.now) (same_view keywords.now) && not (type_among_of InstanceType.Number (plain_view keywords.now).types)) (plainly_as (enum_row untagged by_contents (type_variants_of (plain_view keywords.now) (lists_view keywords.now) (named_view keywords.now))))) }
+) -> Result<Option<Box<Finding<'d>>>, AllocError>
+    ensures { IfOk result (λ o. (r : Relations) → option_map (held_view r) o ≡ line (is_some (many_of (plain_view keywords.now).types) && is_bare_of (plain_view keywords.now) (same_view keywords.now) && not (type_among_of InstanceType.Number (plain_view keywords.now).types)) (plainly_as (enum_row untagged by_contents (type_variants_of (plain_view keywords.now) (lists_view keywords.now) (named_view keywords.now))))) }
 {
     if has_many_types(keywords)
         && is_bare(keywords)
         && !type_among(keywords, InstanceType::Number)
     {
         let variants = type_variants(alloc, keywords)?;
-        Ok(Some(plainly(
-            alloc,
-            Row::Enum {
-                tag: TagRow::Untagged,
-                closing: Closing::ByContents,
-                variants,
-            },
-        )))
+        let row = Row::Enum {
+            tag: TagRow::Untagged,
+            closing: Closing::ByContents,
+            variants,
+        };
+        Ok(Some(hold(alloc, plainly(alloc, row))?))
     } else {
         Ok(None)
     }

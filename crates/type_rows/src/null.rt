@@ -10,9 +10,10 @@ ghost use Rattle.convert_defs.specs.Standing.{of_type as of_type_of};
 ghost use Rattle.convert_defs.specs.Scalars.{non_null};
 ghost use Rattle.convert_defs.specs.Table.{type_beside_null as type_beside_null_of, beside_null as beside_null_of, lists_only_nulls as lists_only_nulls_of, lists_no_null as lists_no_null_of, nullable, nullable_notes};
 ghost use Rattle.row_types.specs.Given.{given_values_view, plain_view, same_view, lists_view, named_view, keywords_view};
-ghost use Rattle.row_types.specs.View.{row_view, finding_view};
-ghost use Rattle.type_rows.specs.Line.{line};
+ghost use Rattle.row_types.specs.View.{row_view};
+ghost use Rattle.type_rows.specs.Line.{held_view, line};
 
+use crate::line::hold;
 use row_types::{
     Finding, GivenTypes, GivenValues, Keywords, Leaf, NoteKind, Row, Way, has_type, is_bare, made,
     noted, plainly, same_type, type_beside_null, with_note,
@@ -25,8 +26,8 @@ use std::alloc::{AllocError, Global};
 pub fn beside_null_line<'d>(
     alloc: Global,
     keywords: &Keywords<'d>,
-) -> Result<Option<Finding<'d>>, AllocError>
-    ensures { IfOk result (λ o. (r : Relations) → option_map (finding_view r) o ≡ line (is_some (type_beside_null_of (plain_view keywords.now).types)) (noted_as (nullable_notes (plain_view keywords.now) (same_view keywords.now)) (nullable (plain_view keywords.now) (same_view keywords.now) (lists_view keywords.now) (named_view keywords.now) (type_beside_null_of (plain_view keywords.now).types)))) }
+) -> Result<Option<Box<Finding<'d>>>, AllocError>
+    ensures { IfOk result (λ o. (r : Relations) → option_map (held_view r) o ≡ line (is_some (type_beside_null_of (plain_view keywords.now).types)) (noted_as (nullable_notes (plain_view keywords.now) (same_view keywords.now)) (nullable (plain_view keywords.now) (same_view keywords.now) (lists_view keywords.now) (named_view keywords.now) (type_beside_null_of (plain_view keywords.now).types)))) }
 {
     match type_beside_null(keywords) {
         Some(kind) => {
@@ -37,7 +38,7 @@ pub fn beside_null_line<'d>(
                 NoteKind::Null,
             )?;
             let row = nullable_row(alloc, keywords, kind)?;
-            Ok(Some(noted(alloc, notes, row)))
+            Ok(Some(hold(alloc, noted(alloc, notes, row))?))
         }
         None => Ok(None),
     }
@@ -109,12 +110,15 @@ fn less_nulls<'d>(values: Option<GivenValues<'d>>) -> Option<GivenValues<'d>>
 }
 
 /// The type null alone.
-pub fn null_line<'d>(alloc: Global, keywords: &Keywords<'d>) -> Option<Finding<'d>>
-    ensures { (r : Relations) → option_map (finding_view r) result ≡ line (has_type_of InstanceType.Null (plain_view keywords.now).types && is_bare_of (plain_view keywords.now) (same_view keywords.now)) (plainly_as (leaf_row unit_entry)) }
+pub fn null_line<'d>(
+    alloc: Global,
+    keywords: &Keywords<'d>,
+) -> Result<Option<Box<Finding<'d>>>, AllocError>
+    ensures { IfOk result (λ o. (r : Relations) → option_map (held_view r) o ≡ line (has_type_of InstanceType.Null (plain_view keywords.now).types && is_bare_of (plain_view keywords.now) (same_view keywords.now)) (plainly_as (leaf_row unit_entry))) }
 {
     if has_type(keywords, InstanceType::Null) && is_bare(keywords) {
-        Some(plainly(alloc, Row::Leaf(Leaf::Unit)))
+        Ok(Some(hold(alloc, plainly(alloc, Row::Leaf(Leaf::Unit)))?))
     } else {
-        None
+        Ok(None)
     }
 }

@@ -9,9 +9,10 @@ ghost use Rattle.convert_defs.specs.Standing.{less_reference as less_reference_o
 ghost use Rattle.convert_defs.specs.Table.{reference_row, no_others as no_others_of, same_lists as same_lists_of, same_types, types_of_schema, target_types, target_part};
 ghost use Rattle.schema_types.specs.View.{types_view, schema_view};
 ghost use Rattle.row_types.specs.Given.{plain_view, same_view, lists_view, named_view, given_types_view};
-ghost use Rattle.row_types.specs.View.{part_view, finding_view};
-ghost use Rattle.type_rows.specs.Line.{line};
+ghost use Rattle.row_types.specs.View.{part_view};
+ghost use Rattle.type_rows.specs.Line.{held_view, line};
 
+use crate::line::hold;
 use row_types::{
     Finding, GivenTypes, Keywords, Part, PartKind, Row, Source, Steps, is_without_same,
     less_reference, made, no_others, plainly, same_type,
@@ -28,18 +29,21 @@ fn refers_at_most(keywords: &Keywords<'_>) -> bool
 }
 
 /// A reference alone.
-pub fn reference_line<'d>(alloc: Global, keywords: &Keywords<'d>) -> Option<Finding<'d>>
-    ensures { (r : Relations) → option_map (finding_view r) result ≡ line (is_some (plain_view keywords.now).reference && is_none (plain_view keywords.now).types && no_others_of (less_reference_of (plain_view keywords.now)) (lists_view keywords.now) (named_view keywords.now) && without_same (same_view keywords.now)) (plainly_as (reference_row (plain_view keywords.now).reference)) }
+pub fn reference_line<'d>(
+    alloc: Global,
+    keywords: &Keywords<'d>,
+) -> Result<Option<Box<Finding<'d>>>, AllocError>
+    ensures { IfOk result (λ o. (r : Relations) → option_map (held_view r) o ≡ line (is_some (plain_view keywords.now).reference && is_none (plain_view keywords.now).types && no_others_of (less_reference_of (plain_view keywords.now)) (lists_view keywords.now) (named_view keywords.now) && without_same (same_view keywords.now)) (plainly_as (reference_row (plain_view keywords.now).reference))) }
 {
     match keywords.reference {
         Some(reference) => {
             if keywords.types.is_none() && refers_at_most(keywords) {
-                Some(plainly(alloc, Row::Reference(reference)))
+                Ok(Some(hold(alloc, plainly(alloc, Row::Reference(reference)))?))
             } else {
-                None
+                Ok(None)
             }
         }
-        None => None,
+        None => Ok(None),
     }
 }
 
@@ -48,13 +52,13 @@ pub fn reference_with_others_line<'d>(
     alloc: Global,
     document: &'d Document,
     keywords: &Keywords<'d>,
-) -> Result<Option<Finding<'d>>, AllocError>
-    ensures { IfOk result (λ o. (r : Relations) → option_map (finding_view r) o ≡ line (is_some (plain_view keywords.now).reference) (plainly_as (merged_row (target_part (document_seen document.now) (plain_view keywords.now).reference ++ made_of (object (less_reference_of (plain_view keywords.now)) (same_view keywords.now) (lists_view keywords.now) (named_view keywords.now)) ∷ [])))) }
+) -> Result<Option<Box<Finding<'d>>>, AllocError>
+    ensures { IfOk result (λ o. (r : Relations) → option_map (held_view r) o ≡ line (is_some (plain_view keywords.now).reference) (plainly_as (merged_row (target_part (document_seen document.now) (plain_view keywords.now).reference ++ made_of (object (less_reference_of (plain_view keywords.now)) (same_view keywords.now) (lists_view keywords.now) (named_view keywords.now)) ∷ [])))) }
 {
     match keywords.reference {
         Some(reference) => {
             let parts = merged_parts(alloc, document, keywords, reference)?;
-            Ok(Some(plainly(alloc, Row::Merged(parts))))
+            Ok(Some(hold(alloc, plainly(alloc, Row::Merged(parts)))?))
         }
         None => Ok(None),
     }
@@ -183,17 +187,17 @@ pub fn reference_of_type_line<'d>(
     alloc: Global,
     document: &Document,
     keywords: &Keywords<'d>,
-) -> Option<Finding<'d>>
-    ensures { (r : Relations) → option_map (finding_view r) result ≡ line (is_some (plain_view keywords.now).reference && same_types (plain_view keywords.now).types (target_types (document_seen document.now) (plain_view keywords.now).reference) && no_others_of (less_reference_of (plain_view keywords.now)) (lists_view keywords.now) (named_view keywords.now) && without_same (same_view keywords.now)) (plainly_as (reference_row (plain_view keywords.now).reference)) }
+) -> Result<Option<Box<Finding<'d>>>, AllocError>
+    ensures { IfOk result (λ o. (r : Relations) → option_map (held_view r) o ≡ line (is_some (plain_view keywords.now).reference && same_types (plain_view keywords.now).types (target_types (document_seen document.now) (plain_view keywords.now).reference) && no_others_of (less_reference_of (plain_view keywords.now)) (lists_view keywords.now) (named_view keywords.now) && without_same (same_view keywords.now)) (plainly_as (reference_row (plain_view keywords.now).reference))) }
 {
     match keywords.reference {
         Some(reference) => {
             if has_same_types(document, keywords, reference) && refers_at_most(keywords) {
-                Some(plainly(alloc, Row::Reference(reference)))
+                Ok(Some(hold(alloc, plainly(alloc, Row::Reference(reference)))?))
             } else {
-                None
+                Ok(None)
             }
         }
-        None => None,
+        None => Ok(None),
     }
 }

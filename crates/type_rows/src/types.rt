@@ -9,8 +9,9 @@ ghost use Rattle.convert_defs.specs.Standing.{is_untyped as is_untyped_of, has_c
 ghost use Rattle.convert_defs.specs.Table.{has_one_type as has_one_type_of, allowed_row, listed};
 ghost use Rattle.row_types.specs.Given.{plain_view, same_view, lists_view, named_view, keywords_view, given_values_view};
 ghost use Rattle.row_types.specs.View.{part_view, finding_view};
-ghost use Rattle.type_rows.specs.Line.{line};
+ghost use Rattle.type_rows.specs.Line.{held_view, line};
 
+use crate::line::hold;
 use row_types::{
     Cause, Finding, GivenValues, Keywords, Leaf, NoteKind, Part, Row, RowRule, Way,
     has_conditional, has_one_type, is_bare, is_untyped, is_without_lists, is_without_named,
@@ -20,28 +21,34 @@ use scalar_rows::{ValueKind, any_of};
 use std::alloc::{AllocError, Global};
 
 /// `if`, `then` or `else`: refused.
-pub fn conditional_line<'d>(alloc: Global, keywords: &Keywords<'d>) -> Option<Finding<'d>>
-    ensures { (r : Relations) → option_map (finding_view r) result ≡ line (has_conditional_of (same_view keywords.now)) (plainly_as (refused_row conditional)) }
+pub fn conditional_line<'d>(
+    alloc: Global,
+    keywords: &Keywords<'d>,
+) -> Result<Option<Box<Finding<'d>>>, AllocError>
+    ensures { IfOk result (λ o. (r : Relations) → option_map (held_view r) o ≡ line (has_conditional_of (same_view keywords.now)) (plainly_as (refused_row conditional))) }
 {
     if has_conditional(keywords) {
-        Some(refused(alloc, Cause::Conditional))
+        Ok(Some(hold(alloc, refused(alloc, Cause::Conditional))?))
     } else {
-        None
+        Ok(None)
     }
 }
 
 /// No keyword: any value.
-pub fn any_line<'d>(alloc: Global, keywords: &Keywords<'d>) -> Option<Finding<'d>>
-    ensures { (r : Relations) → option_map (finding_view r) result ≡ line (is_untyped_of (plain_view keywords.now) && is_bare_of (plain_view keywords.now) (same_view keywords.now) && without_lists (lists_view keywords.now) && without_named (named_view keywords.now)) (plainly_as (leaf_row any_entry)) }
+pub fn any_line<'d>(
+    alloc: Global,
+    keywords: &Keywords<'d>,
+) -> Result<Option<Box<Finding<'d>>>, AllocError>
+    ensures { IfOk result (λ o. (r : Relations) → option_map (held_view r) o ≡ line (is_untyped_of (plain_view keywords.now) && is_bare_of (plain_view keywords.now) (same_view keywords.now) && without_lists (lists_view keywords.now) && without_named (named_view keywords.now)) (plainly_as (leaf_row any_entry))) }
 {
     if is_untyped(keywords)
         && is_bare(keywords)
         && is_without_lists(keywords)
         && is_without_named(keywords)
     {
-        Some(plainly(alloc, Row::Leaf(Leaf::Any)))
+        Ok(Some(hold(alloc, plainly(alloc, Row::Leaf(Leaf::Any)))?))
     } else {
-        None
+        Ok(None)
     }
 }
 
@@ -49,8 +56,8 @@ pub fn any_line<'d>(alloc: Global, keywords: &Keywords<'d>) -> Option<Finding<'d
 pub fn allowed_line<'d>(
     alloc: Global,
     keywords: &Keywords<'d>,
-) -> Result<Option<Finding<'d>>, AllocError>
-    ensures { IfOk result (λ o. (r : Relations) → option_map (finding_view r) o ≡ line (has_one_type_of (plain_view keywords.now).types && is_some (plain_view keywords.now).enum_values) (plainly_as (allowed_row (made_of (object (less_enum_of (plain_view keywords.now)) (same_view keywords.now) (lists_view keywords.now) (named_view keywords.now))) (listed (plain_view keywords.now).enum_values)))) }
+) -> Result<Option<Box<Finding<'d>>>, AllocError>
+    ensures { IfOk result (λ o. (r : Relations) → option_map (held_view r) o ≡ line (has_one_type_of (plain_view keywords.now).types && is_some (plain_view keywords.now).enum_values) (plainly_as (allowed_row (made_of (object (less_enum_of (plain_view keywords.now)) (same_view keywords.now) (lists_view keywords.now) (named_view keywords.now))) (listed (plain_view keywords.now).enum_values)))) }
 {
     if !has_one_type(keywords) {
         return Ok(None);
@@ -58,7 +65,7 @@ pub fn allowed_line<'d>(
     match keywords.enum_values {
         Some(values) => {
             let part = made(alloc, less_enum(keywords))?;
-            Ok(Some(allowed(alloc, part, values)))
+            Ok(Some(hold(alloc, allowed(alloc, part, values))?))
         }
         None => Ok(None),
     }
@@ -78,15 +85,16 @@ fn allowed<'d>(alloc: Global, part: Part<'d>, values: GivenValues<'d>) -> Findin
 pub fn constant_line<'d>(
     alloc: Global,
     keywords: &Keywords<'d>,
-) -> Result<Option<Finding<'d>>, AllocError>
-    ensures { IfOk result (λ o. (r : Relations) → option_map (finding_view r) o ≡ line (is_some (plain_view keywords.now).const_value) (noted_as (here widened const_note ∷ []) (as_it_is_row (made_of (object (less_const_of (plain_view keywords.now)) (same_view keywords.now) (lists_view keywords.now) (named_view keywords.now)))))) }
+) -> Result<Option<Box<Finding<'d>>>, AllocError>
+    ensures { IfOk result (λ o. (r : Relations) → option_map (held_view r) o ≡ line (is_some (plain_view keywords.now).const_value) (noted_as (here widened const_note ∷ []) (as_it_is_row (made_of (object (less_const_of (plain_view keywords.now)) (same_view keywords.now) (lists_view keywords.now) (named_view keywords.now)))))) }
 {
     if keywords.const_value.is_none() {
         return Ok(None);
     }
     let notes = with_note(Vec::new(alloc), true, Way::Widened, NoteKind::Const)?;
     let part = made(alloc, less_const(keywords))?;
-    Ok(Some(noted(alloc, notes, Row::AsItIs(part))))
+    let held = hold(alloc, noted(alloc, notes, Row::AsItIs(part)))?;
+    Ok(Some(held))
 }
 
 // The schema without subschemas.
@@ -115,8 +123,8 @@ fn subschemas_alone<'d>(keywords: &Keywords<'d>) -> Keywords<'d>
 pub fn several_line<'d>(
     alloc: Global,
     keywords: &Keywords<'d>,
-) -> Result<Option<Finding<'d>>, AllocError>
-    ensures { IfOk result (λ o. (r : Relations) → option_map (finding_view r) o ≡ line (not (without_same (same_view keywords.now))) (plainly_as (merged_row (made_of (object (plain_view keywords.now) no_same (lists_view keywords.now) (named_view keywords.now)) ∷ made_of (object no_keyword_of (same_view keywords.now) no_lists no_named) ∷ [])))) }
+) -> Result<Option<Box<Finding<'d>>>, AllocError>
+    ensures { IfOk result (λ o. (r : Relations) → option_map (held_view r) o ≡ line (not (without_same (same_view keywords.now))) (plainly_as (merged_row (made_of (object (plain_view keywords.now) no_same (lists_view keywords.now) (named_view keywords.now)) ∷ made_of (object no_keyword_of (same_view keywords.now) no_lists no_named) ∷ [])))) }
 {
     if is_without_same(keywords) {
         return Ok(None);
@@ -124,5 +132,5 @@ pub fn several_line<'d>(
     let mut parts = Vec::new(alloc);
     parts.push(made(alloc, less_subschemas(keywords))?)?;
     parts.push(made(alloc, subschemas_alone(keywords))?)?;
-    Ok(Some(plainly(alloc, Row::Merged(parts))))
+    Ok(Some(hold(alloc, plainly(alloc, Row::Merged(parts)))?))
 }

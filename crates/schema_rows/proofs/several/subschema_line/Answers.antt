@@ -10,13 +10,13 @@ use Rattle.row_types.specs.View.{finding_view}
 use Rattle.schema_rows.proofs.Found.{found_line, no_line, not_both}
 use Rattle.schema_rows.proofs.several.subschema_line.Goals as goal
 
-pub returns-in_ok-noticed-in-Some : goal.returns-in_ok-noticed-in-Some
-returns-in_ok-noticed-in-Some c =
+pub returns-in_ok-held-in-Some : goal.returns-in_ok-held-in-Some
+returns-in_ok-held-in-Some c =
     let d = view c.args.document.now in
     let k = c.args.keywords.now in
     let p = plain_view k in
     λ r.
-    ap Some (c.in_ok-noticed-in-Some.ensures r ∙ ap (λ ns. add_notes ns (finding_view r c.in-Some.finding)) c.in_ok-notes-in-Some.ensures)
+    ap Some (c.in_ok-held-in-Some.ensures r ∙ c.in_ok-noticed-in-Some.ensures r ∙ ap (λ ns. add_notes ns (finding_view r c.in-Some.finding)) c.in_ok-notes-in-Some.ensures)
     ∙ sym (found_line (subschema_finding d (wanted_of p) (same_view k)) (no_others p (lists_view k) (named_view k)) (note_if (is_some p.types) (here widened type_note)) (finding_view r c.in-Some.finding)
     (ap (option_map (finding_view r)) (sym c.in-Some.is) ∙ c.in_ok-finding.ensures r)
     (sym c.if-not-no_others.false ∙ c.no_others.ensures))

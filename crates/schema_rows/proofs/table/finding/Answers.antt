@@ -2,6 +2,7 @@ use Rattle.std.proofs.Common.{◌≡◌, sym, ap, ◌∙◌}
 use Rattle.schema_tree.specs.Document.{view}
 use Rattle.convert_defs.specs.Table.{finding_of}
 use Rattle.row_types.specs.Given.{plain_view, same_view, lists_view, named_view, keywords_view, source_view}
+use Rattle.row_types.specs.View.{finding_view}
 use Rattle.schema_rows.proofs.Found.{lines_seen}
 use Rattle.schema_rows.proofs.table.finding.Goals as goal
 
@@ -15,8 +16,8 @@ returns-in_ok-found-in-Written c =
     let d = view c.args.document.now in
     λ r. c.in_ok-found-in-Written.ensures r ∙ ap (λ s. finding_of r d (source_view s)) (sym c.in-Written.is)
 
-pub returns-in_ok-found-in-Made : goal.returns-in_ok-found-in-Made
-returns-in_ok-found-in-Made c =
+pub returns-in_ok-held-in-Made : goal.returns-in_ok-held-in-Made
+returns-in_ok-held-in-Made c =
     let d = view c.args.document.now in
     let k = c.deref.result.now in
-    λ r. c.in_ok-found-in-Made.ensures r ∙ lines_seen r d (plain_view k) (same_view k) (lists_view k) (named_view k) ∙ ap (λ x. finding_of r d (keywords_view x)) c.deref.ensures ∙ ap (λ s. finding_of r d (source_view s)) (sym c.in-Made.is)
+    λ r. ap (finding_view r) c.into_inner.ensures ∙ c.in_ok-held-in-Made.ensures r ∙ lines_seen r d (plain_view k) (same_view k) (lists_view k) (named_view k) ∙ ap (λ x. finding_of r d (keywords_view x)) c.deref.ensures ∙ ap (λ s. finding_of r d (source_view s)) (sym c.in-Made.is)

@@ -1,4 +1,4 @@
-use Rattle.std.proofs.Common.{is_some, map, ap}
+use Rattle.std.proofs.Common.{Some, is_some, map, ap, ◌∙◌}
 use Rattle.schema_defs.specs.Schema.{object}
 use Rattle.convert_defs.specs.Standing.{less_const}
 use Rattle.row_types.specs.Given.{plain_view, same_view, lists_view, named_view, keywords_view}
@@ -9,7 +9,8 @@ use Rattle.type_rows.proofs.types.constant_line.Goals as goal
 pub returns : goal.returns
 returns c = λ r.
     let k = c.args.keywords.now in
-    constant_found
+    ap Some (c.in_ok-held.ensures r)
+    ∙ constant_found
     (is_some (plain_view k).const_value)
     (finding_view r c.noted.result)
     (map note_view c.new.result.items)
