@@ -6,3 +6,4 @@ pub mod Sames
 pub mod Taken
 pub mod Bodies
 pub mod Answering
+pub mod Standing

@@ -1,11 +1,14 @@
 -- Merges and subtractions with so many levels left, as the cycle of calls asks for them.
-use Rattle.std.specs.Prelude.{ℕ, [], Option, Some, None}
+use Rattle.std.specs.Prelude.{ℕ, ◌&&◌, not, [], Bool, true, false, Option, Some, None}
+use Rattle.json_value.specs.Value.{null}
 use Rattle.schema_defs.specs.Schema.{Schema, Schemas, no_more, schema, Document}
+use Rattle.schema_defs.specs.Admits.{counts_as_absent}
 use Rattle.schema_types.specs.DocumentView.{document_view}
 use Rattle.merge_defs.specs.Outcome.{Outcome, answer, and_then}
 use Rattle.merge_walks.specs.Carried.{Walk}
 use Rattle.merge_walks.specs.Made.{on_made}
 use Rattle.merge_walks.specs.Walked.{parts_within}
+use Rattle.merge_aside.specs.Aside.{Aside, merges_apart}
 use Rattle.schema_merge.specs.declared.how.How.{How}
 use Rattle.schema_merge.specs.declared.how.How.TheVariants.{Join, Less}
 use Rattle.schema_merge.specs.declared.how.Scope.{Scope}
@@ -47,3 +50,17 @@ less_in s n = less_within (document_in s) s.most n
 
 abbrev pub asked_in : Scope → ℕ → Option Walk → How → Schema → Schema → Outcome Schema
 asked_in s n o h = asked (document_in s) s.most n o h
+
+-- ---- what stands aside while several are merged
+
+abbrev pub joins : How → Bool
+joins Join = true
+joins Less = false
+
+-- they are merged, and null stands for no absent member
+abbrev pub keeps_aside : Document → How → Bool
+keeps_aside d h = joins h && not (counts_as_absent d.setting null)
+
+-- besides, the schemas may be merged without what stands aside
+abbrev pub merges_beside : Document → How → Aside → Schema → Schema → Bool
+merges_beside d h a s t = keeps_aside d h && merges_apart a s t

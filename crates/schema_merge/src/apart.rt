@@ -17,6 +17,7 @@ ghost use Rattle.merge_parts.specs.Steps.{Steps, given};
 ghost use Rattle.merge_parts.specs.declared.fault.MergeFault.TheVariants.{Memory};
 ghost use Rattle.merge_steps.specs.Ends.{Ends, Goes, Leads};
 ghost use Rattle.merge_steps.specs.declared.stop.Stop.TheVariants.{Fault};
+ghost use Rattle.merge_aside.specs.View.{parted_view, IsSettled};
 ghost use Rattle.merge_lists.specs.Plans.{each_outcome, ending_outcome, list_outcome, maybe_array, merged_view, put_front};
 ghost use Rattle.merge_members.specs.Plans.{gathered_outcome, maybe_members, member_outcome, properties_in, unsaid_view};
 ghost use Rattle.merge_branches.specs.Parts.{all_listed, any_listed, none_listed, one_listed};
@@ -25,6 +26,9 @@ ghost use Rattle.merge_sides.specs.Leaves.{leaves_view};
 ghost use Rattle.merge_sides.specs.Met.{body_outcome, met_outcome, referred_outcome, referred_view, walk_or};
 ghost use Rattle.merge_taken.specs.Taking.{taking_outcome, with_properties as with_properties_of};
 
+use crate::how::{How, Scope};
+use crate::outside::keeps_aside;
+use merge_aside::Parted;
 use merge_branches::{Branch, Kept, SameParts};
 use merge_lists::{Around, ListPlan, MergedPlaces};
 use merge_members::{Frame, Gathered, MemberPlan};
@@ -355,5 +359,26 @@ pub(crate) fn add_turned(
     } else {
         let unit = merge_parts::add_turned(notes, more)?;
         Ok(unit)
+    }
+}
+
+/// Where they are merged, what the other schema doesn't name goes aside, as far as it may; else all stays.
+#[inline(never)]
+pub(crate) fn set_apart(
+    scope: &Scope<'_>,
+    how: How,
+    parted: Parted,
+    other: &Schema,
+) -> Result<Parted, AllocError>
+    ensures whole { IfOk result (λ p. parted_view p ≡ parted_view parted) }
+    ensures settled { IsSettled parted.aside → IfOk result (λ p. IsSettled p.aside) }
+{
+    if !keeps_aside(scope, how) {
+        return Ok(parted);
+    }
+    if parted.aside.required.is_empty() {
+        merge_aside::set_apart(scope.alloc, parted, other)
+    } else {
+        merge_aside::set_apart(scope.alloc, parted, other)
     }
 }

@@ -1,5 +1,5 @@
 //! The cycle of calls: a merge asks for merges of its parts, and so does a subtraction.
-ghost use Rattle.std.specs.Prelude.{[], Bool, option_map};
+ghost use Rattle.std.specs.Prelude.{[], Bool, IfOk, option_map};
 ghost use Rattle.schema_defs.specs.Schema.{no_properties, schemas};
 ghost use Rattle.schema_defs.specs.Walks.{IsGuarded};
 ghost use Rattle.schema_types.specs.View.{maybe_list_view, maybe_view, same_of, schema_view, schemas_view, subschemas_view};
@@ -9,6 +9,7 @@ ghost use Rattle.merge_defs.specs.Objects.{two_named};
 ghost use Rattle.merge_defs.specs.Members.{fates as fates_of, with_same as with_same_of};
 ghost use Rattle.merge_parts.specs.View.{notes_view};
 ghost use Rattle.merge_steps.specs.Ends.{Ends, Goes};
+ghost use Rattle.merge_aside.specs.View.{parted_view, IsSettled};
 ghost use Rattle.merge_lists.specs.Plans.{each_outcome, list_outcome, maybe_array, merged_view, pairs_outcome, pairs_view};
 ghost use Rattle.merge_lists.specs.declared.plan.ListPlan.TheVariants.{ByPlace};
 ghost use Rattle.merge_members.specs.Plans.{bound_outcome, entries_then, gathered_outcome, maybe_members, member_outcome, members_outcome, properties_in, rest_outcome};
@@ -21,10 +22,11 @@ ghost use Rattle.schema_merge.specs.Within.{asked_in, document_in, folded, join_
 
 use crate::apart::{
     add_turned, body_of, clashed, each_front, ended, finish, finished, gather, judge, left_of,
-    made_members, meet, meet_less, parts_of, stand_for, two_lists, two_members,
+    made_members, meet, meet_less, parts_of, set_apart, stand_for, two_lists, two_members,
 };
 use crate::how::{How, Scope};
-use crate::outside::{boxed, no_rest, too_few};
+use crate::outside::{boxed, merges_beside, no_rest, too_few};
+use merge_aside::{Parted, unparted, whole};
 use merge_branches::{Branch, Kept, SameParts, none_kept};
 use merge_lists::{Around, ListPlan, MergedPlaces, Pair, Places, at_end, goes_on, is_full};
 use merge_members::{
@@ -184,6 +186,33 @@ fn find(
     or_never(ask(scope, notes, left, walk, how, first, second))
 }
 
+// One more of several that come one after another. What it doesn't name stands aside, where it may.
+#[cycle(merge)]
+fn fold_one(
+    scope: &Scope<'_>,
+    notes: &mut Vec<MergeNote>,
+    left: usize,
+    walk: &Option<Walk>,
+    how: How,
+    parted: Parted,
+    schema: Schema,
+) -> Result<Parted, Stop>
+    requires guarded { IsGuarded (document_in scope.now) }
+    requires settled { IsSettled parted.aside }
+    ensures ends { Ends parted_view (notes_view notes.old.items) (notes_view notes.new.items) (asked_in scope.now left walk.now how (parted_view parted) (schema_view schema)) result }
+    ensures stays { IfOk result (λ p. IsSettled p.aside) }
+{
+    let parted = set_apart(scope, how, parted, &schema)?;
+    if merges_beside(scope, how, &parted, &schema) {
+        let Parted { body, aside } = parted;
+        let body = ask(scope, notes, left, walk, how, body, schema)?;
+        return Ok(Parted { body, aside });
+    }
+    let body = whole(parted)?;
+    let body = ask(scope, notes, left, walk, how, body, schema)?;
+    Ok(unparted(scope.alloc, body))
+}
+
 // One after another.
 #[cycle(merge)]
 pub(crate) fn fold(
@@ -198,10 +227,11 @@ pub(crate) fn fold(
     requires { IsGuarded (document_in scope.now) }
     ensures { Ends schema_view (notes_view notes.old.items) (notes_view notes.new.items) (folded (asked_in scope.now left walk.now how) (schemas (schemas_view list.items)) (schema_view body)) result }
 {
-    let mut body = body;
+    let mut parted = unparted(scope.alloc, body);
     for schema in list {
-        body = ask(scope, notes, left, walk, how, body, schema)?;
+        parted = fold_one(scope, notes, left, walk, how, parted, schema)?;
     }
+    let body = whole(parted)?;
     Ok(body)
 }
 

@@ -1,4 +1,4 @@
-use Rattle.std.proofs.Common.{◌≡◌, ◌-◌, suc, true, false, None, [], ◌∷◌, refl, ap, ◌∙◌, arith, rules, option_map}
+use Rattle.std.proofs.Common.{◌≡◌, ◌-◌, suc, true, false, None, [], ◌∷◌, refl, sym, ap, ◌∙◌, arith, rules, option_map}
 use Rattle.std.specs.Vec.Iter.{into_iter_items}
 use Rattle.schema_types.specs.View.{maybe_list_view, object_view, schema_view, subschemas_view}
 use Rattle.merge_leaves.specs.Sizes.{list_sizes_view}
@@ -7,6 +7,7 @@ use Rattle.merge_parts.specs.View.{notes_view}
 use Rattle.merge_steps.proofs.Leading.{led, leads_by, leads_on}
 use Rattle.merge_steps.proofs.Ending.{on}
 use Rattle.merge_lists.specs.Plans.{does_go_on, each_outcome, ending_outcome, merged_view}
+use Rattle.merge_aside.specs.View.{parted_view}
 use Rattle.merge_branches.specs.Kept.{branches_outcome}
 use Rattle.merge_sides.specs.Met.{referred_outcome, referred_view}
 use Rattle.schema_merge.specs.declared.how.How.TheVariants.{Join, Less}
@@ -17,6 +18,7 @@ use Rattle.schema_merge.proofs.Named.{by_names, off_entries}
 use Rattle.schema_merge.proofs.Places.{each_noted, ending_any, ending_noted, places_begin, places_clash, places_step}
 use Rattle.schema_merge.proofs.Sames.{fates_off, members_off, members_on, off_all, off_any, off_none, to_one}
 use Rattle.schema_merge.proofs.Steps.{finds_by, found_as, found_on, goes_then, handed, handed_goes}
+use Rattle.schema_merge.proofs.Standing.{ends_apart, folded_on, stops_apart}
 use Rattle.schema_merge.proofs.Taken as taken
 use Rattle.schema_merge.proofs.cycle.+merge.Goals as goal
 
@@ -88,6 +90,26 @@ ask-returns-in-Less t c =
     let most = c.args.scope.now.most in
     led (leads_by (asked_as d most c.args.left c.args.walk.now c.args.how (schema_view c.args.first) (schema_view c.args.second) (schema_view c.in_ok-first.first) (schema_view c.in_ok-second.second) c.in_ok-first.ensures c.in_ok-second.ensures
     ∙ ap (λ h. within d most c.args.left h (schema_view c.in_ok-first.first) (schema_view c.in_ok-second.second)) c.in-Less.is)) c.less.ensures
+
+-- several, one after another
+pub fold_one-returns-then-merges_beside-clause-ends : goal.fold_one-returns-then-merges_beside-clause-ends
+fold_one-returns-then-merges_beside-clause-ends t c =
+    let p = c.in_ok-parted.parted in
+    ends_apart (document_in c.args.scope.now) c.args.scope.now.most c.args.left c.args.walk.now c.args.how p (parted_view c.args.parted) (schema_view c.args.schema) c.in_ok-parted.ensures.whole (c.in_ok-parted.ensures.settled c.requires.settled)
+    (sym c.merges_beside.ensures ∙ c.if-merges_beside.true) c.in_ok-body.body c.in_ok-body.ensures
+
+pub fold_one-returns-in_err-body-clause-ends : goal.fold_one-returns-in_err-body-clause-ends
+fold_one-returns-in_err-body-clause-ends t c =
+    let p = c.in_ok-parted.parted in
+    stops_apart (document_in c.args.scope.now) c.args.scope.now.most c.args.left c.args.walk.now c.args.how p (parted_view c.args.parted) (schema_view c.args.schema) c.in_ok-parted.ensures.whole (c.in_ok-parted.ensures.settled c.requires.settled)
+    (sym c.merges_beside.ensures ∙ c.if-merges_beside.true) _ _ c.from_residual-in_err-body.ensures.1 c.in_err-body.ensures
+
+pub fold-loop-schema-preserved : goal.fold-loop-schema-preserved
+fold-loop-schema-preserved t c =
+    let l = c.loop-schema in
+    let f = asked_in c.args.scope.now c.args.left c.args.walk.now c.args.how in
+    let steps : into_iter_items l.schema-iterator ≡ c.in-Some.schema ∷ into_iter_items c.next.new.self = search rules in
+    (leads_on l.invariant.0 (folded_on f _ _ c.in-Some.schema l.parted c.in_ok-parted.parted steps c.in_ok-parted.ensures.ends), c.in_ok-parted.ensures.stays)
 
 -- ---- lists
 

@@ -5,6 +5,7 @@ use Rattle.schema_types.specs.View.{schema_view, schemas_view}
 use Rattle.merge_defs.specs.Outcome.{answer, mapped}
 use Rattle.merge_defs.specs.Arrays.{by_places}
 use Rattle.merge_defs.specs.Members.{fates}
+use Rattle.merge_aside.specs.View.{parted_view, IsSettled}
 use Rattle.merge_leaves.specs.Sizes.{list_sizes_view}
 use Rattle.merge_parts.specs.View.{notes_view}
 use Rattle.merge_steps.specs.Ends.{Leads}
@@ -29,8 +30,11 @@ decreases-ask l = l.left * 20 + 1
 abbrev pub decreases-find : goal.decreases-find
 decreases-find l = l.left * 20 + 2
 
+abbrev pub decreases-fold_one : goal.decreases-fold_one
+decreases-fold_one l = l.left * 20 + 2
+
 abbrev pub decreases-fold : goal.decreases-fold
-decreases-fold l = l.left * 20 + 2
+decreases-fold l = l.left * 20 + 3
 
 abbrev pub decreases-join_bound : goal.decreases-join_bound
 decreases-join_bound l = l.left * 20 + 3
@@ -104,7 +108,8 @@ abbrev pub invariant-fold-loop-schema : goal.invariant-fold-loop-schema
 invariant-fold-loop-schema l =
     let f = asked_in l.scope l.left l.walk l.how in
     Leads (notes_view l.fn.notes.items) (notes_view l.notes.items) (folded f (schemas (schemas_view l.fn.list.items)) (schema_view l.fn.body))
-    (folded f (schemas (schemas_view (into_iter_items l.schema-iterator))) (schema_view l.body))
+    (folded f (schemas (schemas_view (into_iter_items l.schema-iterator))) (parted_view l.parted))
+    × IsSettled l.parted.aside
 
 abbrev pub invariant-join_pairs-loop-pair : goal.invariant-join_pairs-loop-pair
 invariant-join_pairs-loop-pair l =

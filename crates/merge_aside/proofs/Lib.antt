@@ -1,0 +1,12 @@
+pub mod Nothing
+pub mod PutNames
+pub mod NameSets
+pub mod Found
+pub mod Forms
+pub mod Putting
+pub mod Placing
+pub mod Walked
+pub mod Members
+pub mod Settling
+pub mod Bodies
+pub mod Law
