@@ -5,3 +5,5 @@ pub mod Whys
 pub mod Inside
 pub mod Judged
 pub mod PlainTables
+pub mod Tested
+pub mod SoundParts

@@ -1,5 +1,5 @@
 -- What a module says of values: typed values, the place where reading stops, and verdicts.
-use Rattle.std.specs.Prelude.{◌≡◌, ℕ, true, false, List}
+use Rattle.std.specs.Prelude.{◌≡◌, ◌&&◌, ℕ, Bool, true, false, List}
 use Rattle.std.specs.List.{list_all}
 use Rattle.run_io.specs.Bytes.{Rises}
 use Rattle.serde_json.specs.Data.{Data}
@@ -28,6 +28,10 @@ module _ (models : List ContainerModel) (conversions : ConversionsD) (relations 
   pub record AreSound : Type 0 where
     pub numbers : list_all has_json_numbers conversions.defaults ≡ true
     pub sound : defaults_are_sound models conversions relations ≡ true
+
+  -- whether they are so
+  abbrev pub are_sound : Bool
+  are_sound = list_all has_json_numbers conversions.defaults && defaults_are_sound models conversions relations
 
   module _ (t : TypeModel) (v : Value) where
     -- the value is read, as that typed value, which is written as the value settles

@@ -11,6 +11,7 @@ mod models;
 mod module;
 mod outside;
 mod read;
+mod sound;
 mod verdict;
 
 pub use errors::{JudgeError, ModuleError, ReadError};

@@ -27,6 +27,13 @@ impl Containers {
         Ok(Containers { containers, names })
     }
 
+    /// The containers, in order.
+    pub fn containers(&self) -> &[Container]
+        ensures { containers_view result.now ≡ containers_view self.now.containers.items }
+    {
+        &self.containers
+    }
+
     /// How many containers there are.
     pub fn count(&self) -> usize
         ensures count { result ≡ length (containers_view self.now.containers.items) }

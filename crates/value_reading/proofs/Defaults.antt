@@ -1,5 +1,5 @@
 -- Stated defaults, entered one inside the other.
-use Rattle.std.proofs.Common.{◌≡◌, ℕ, zero, suc, ◌-◌, List, ◌∷◌, Bool, true, false, cond, Option, Some, None, slice_get, nat_eq, refl, sym, ap, ◌∙◌, arith}
+use Rattle.std.proofs.Common.{◌≡◌, ℕ, zero, suc, ◌-◌, List, [], ◌∷◌, length, Bool, true, false, cond, Option, Some, None, slice_get, nat_eq, refl, sym, ap, ◌∙◌, arith}
 use Rattle.std.specs.List.{list_any}
 use Rattle.json_value.specs.Value.{Value, null}
 use Rattle.schema_defs.specs.Texts.{Relations}
@@ -7,7 +7,8 @@ use Rattle.model_defs.specs.Types.{TypeModel}
 use Rattle.model_defs.specs.Model.{ContainerModel, ConversionsD}
 use Rattle.model_defs.specs.Settled.{or_null, default_at}
 use Rattle.typed_defs.specs.Typed.{Typed}
-use Rattle.reading_defs.specs.Reading.{Read, Reader, unsound}
+use Rattle.reading_defs.specs.Laws.{is_taken}
+use Rattle.reading_defs.specs.Reading.{Read, Reader, unsound, default_inside}
 use Rattle.value_parts.specs.At.{Setting, default_of, reader}
 use Rattle.value_reading.specs.Steps.{part_at, default_stated}
 use Rattle.value_reading.proofs.Levels.{as_type_is}
@@ -35,6 +36,11 @@ module _ (ms : List ContainerModel) (cs : ConversionsD) (r : Relations) where
       let less : j ≡ k = omega (arith, l) in
       w ∙ (λ x. default_stated (entered_at (less x) (m x)) n t) ∙ sym (as_type_is (entered_at k (n ∷ ns)) t (default_at ms cs r n))
       ∙ sym (ap (λ c. cond c unsound (deeper k ns n t)) (sym i ∙ e))
+
+  -- a default that is read by itself, with none entered
+  pub default_here : (more : ℕ) (entered : List ℕ) (n : ℕ) (t : TypeModel) (o : Read Typed) (b : Bool) → more ≡ length cs.defaults → entered ≡ [] → o ≡ default_of (entered_at more entered) n t → b ≡ is_taken o
+      → b ≡ is_taken (default_inside ms cs r (length cs.defaults) [] n t)
+  default_here more entered n t o b m e h i = i ∙ ap is_taken h ∙ (λ j. is_taken (default_of (entered_at (m j) (e j)) n t))
 
 module _ (s : Setting) where
   pub stated_there : (n : ℕ) (t : TypeModel) (v : Value) (o : Read Typed) → Some v ≡ slice_get s.conversions.defaults n → o ≡ part_at s t v → o ≡ default_stated s n t

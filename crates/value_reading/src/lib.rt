@@ -3,6 +3,8 @@
 
 mod apart;
 mod reading;
+mod stated;
 
 pub use reading::read;
+pub use stated::reads_default;
 pub use value_parts::Outcome;

@@ -811,10 +811,10 @@ fn read_missing<T: Texts>(
     }
 }
 
-// A stated default, unless it was entered on the way.
+/// A stated default, unless it was entered on the way.
 #[cycle(read)]
 #[tactic(auto, using(crate::proofs::Defaults::spent, crate::proofs::Defaults::entered_already, crate::proofs::Defaults::inside_default))]
-fn read_default<T: Texts>(
+pub(crate) fn read_default<T: Texts>(
     setting: &Setting<'_>,
     texts: &mut T,
     place: u32,
