@@ -70,7 +70,7 @@ fn given_in(keywords: &Keywords<'_>) -> Given
     }
 }
 
-fn numbers_in(keywords: &Keywords<'_>) -> NumberValidation
+pub fn numbers_in(keywords: &Keywords<'_>) -> NumberValidation
     ensures { numbers_view result ≡ numbers_or_none (plain_view keywords.now).numbers }
 {
     match keywords.numbers {
@@ -94,7 +94,7 @@ fn is_multiple(multiple: Option<u64>) -> bool
     }
 }
 
-fn format_in(keywords: &Keywords<'_>) -> Option<IntName>
+pub fn format_in(keywords: &Keywords<'_>) -> Option<IntName>
     ensures { option_map (λ g. integer_range (integer_view g)) result ≡ format_range (plain_view keywords.now) }
 {
     match keywords.format {

@@ -5,5 +5,7 @@ mod bounds;
 mod choice;
 mod integer;
 mod kinds;
+mod within;
 
 pub use integer::integer_finding;
+pub use within::is_bounded;
