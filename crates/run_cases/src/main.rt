@@ -1,6 +1,6 @@
 //! Whole runs over sources and sinks in memory. Each line of standard input has three parts with tabs between them: the
 //! words, the streams, and the input. The words are those of `typify`, or `admission` with or without `--null-absent`, for
-//! the plain program. The streams are nothing where nothing disturbs the run, or one of these:
+//! the plain program. The word `examine` stands for the call of that name at depth 8. The streams are nothing where nothing disturbs the run, or one of these:
 //! - four numbers: how many bytes the source gives at once and which of its reads fails, how many bytes the sink takes at once and which of its writes fails;
 //! - `padded` and a number: blanks stand behind the input, up to so many bytes;
 //! - `judge`, a number, a pattern and a text: the judge of texts knows that pattern alone, which that text alone has, and fails at its call of that number, from 0.
@@ -8,10 +8,11 @@
 //! The line is printed, and behind it the status and what was written.
 #![tactic(auto)]
 
+use run_input::{input_parts, input_value};
 use run_io::{MemorySink, MemorySource, PlainSink, PlainSource, Sink, Source};
 use schema_tree::{FailingTexts, PlainTexts, Setting, Texts};
 use std::alloc::{AllocError, Global};
-use typify_run::RegexTexts;
+use typify_run::{RegexTexts, Report, examine};
 
 fn main(rt: HostRuntime) -> Result<(), anyhow::Error> {
     for line in rt.lines(rt.alloc()) {
@@ -29,6 +30,9 @@ fn answer(alloc: Global, line: &str) -> Result<String, AllocError> {
     let Some((streams, input)) = rest.split_once('\t') else {
         return String::from_str(alloc, "no case");
     };
+    if words == "examine" {
+        return examined(alloc, input);
+    }
     let called = Called::read(alloc, words)?;
     let Some((first, others)) = streams.split_once(' ') else {
         return plain_run(alloc, &called, input);
@@ -38,6 +42,34 @@ fn answer(alloc: Global, line: &str) -> Result<String, AllocError> {
         "judge" => judged_run(alloc, &called, others, input),
         _ => streamed_run(alloc, &called, streams, input),
     }
+}
+
+// What the examination of an input gives.
+fn examined(alloc: Global, input: &str) -> Result<String, AllocError> {
+    let Ok(value) = input_value(alloc, input.as_bytes()) else {
+        return String::from_str(alloc, "no input");
+    };
+    let Some(parts) = input_parts(&value) else {
+        return String::from_str(alloc, "no input");
+    };
+    let mut texts = RegexTexts::new(alloc);
+    match examine(alloc, parts.schema, 8, parts.values, &mut texts) {
+        Ok(report) => report_text(alloc, &report),
+        Err(_) => String::from_str(alloc, "a fault"),
+    }
+}
+
+// The number of items, and whether each value is taken.
+fn report_text(alloc: Global, report: &Report) -> Result<String, AllocError> {
+    let count = report.items.len();
+    let mut text = format!(in alloc; "items {count}")?;
+    for verdict in &report.verdicts {
+        match verdict.taken() {
+            Some(_) => text.push_str(" taken")?,
+            None => text.push_str(" refused")?,
+        }
+    }
+    Ok(text)
 }
 
 /// What is run.

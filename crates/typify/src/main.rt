@@ -6,13 +6,14 @@ use std::env;
 use std::process::ExitCode;
 use typify_run::{RegexTexts, StdSink, StdSource, run};
 
-const HELP: &str = "typify check DEPTH
-typify items DEPTH
+const HELP: &str = "typify check DEPTH [--null-absent]
+typify items DEPTH [--null-absent]
 
 Reads one JSON object with exactly the members `schema`, a JSON Schema, and `values`, a list, from standard input
 (at most 16,777,216 bytes). `check` prints the number of items that the schema compiles to, a line for each note, and a
 line for each value: taken, with the value written back, or refused, with the place. `items` passes over the values and
-prints the items, each on a line, with their serde attributes. DEPTH is from 1 to 512.
+prints the items, each on a line, with their serde attributes. DEPTH is from 1 to 512. With --null-absent null may
+stand for the absence of a property that isn't required.
 
 A note, `note WAY KIND PATH`, says that the items don't take exactly the values that the schema admits, and where: WAY
 is Widened where they take more, Narrowed where they take fewer; KIND says why, PATH is the place in the schema. Where

@@ -6,7 +6,7 @@ use Rattle.run_io.specs.Bytes.{Rises}
 use Rattle.serde_json.specs.Data.{Data}
 use Rattle.json_value.specs.Value.{Value}
 use Rattle.json_value.specs.View.{value_of}
-use Rattle.schema_defs.specs.declared.Setting.TheVariants.{Strict}
+use Rattle.schema_defs.specs.declared.Setting.{Setting}
 use Rattle.schema_defs.specs.Location.{Location}
 use Rattle.schema_defs.specs.Texts.{Relations}
 use Rattle.schema_defs.specs.Schema.{Document}
@@ -42,16 +42,16 @@ pub unjudged_refused : (r : Relations) (d : Document) (most before between after
 unjudged_refused r d most before between after f h (inl m) = inl m
 unjudged_refused r d most before between after f h (inr u) = inr (inl ([], root_place r d most most_levels, u.0, rises_later before between after h u.1))
 
-module _ (r : Relations) (most before after : ℕ) (schema : Value) (ds : List Data) (f : FaultD) where
-  pub wide_refused : (f ≡ memory) ⊎ HasWideNumber ds f → IsRefusal r most before after schema ds f
+module _ (setting : Setting) (r : Relations) (most before after : ℕ) (schema : Value) (ds : List Data) (f : FaultD) where
+  pub wide_refused : (f ≡ memory) ⊎ HasWideNumber ds f → IsRefusal setting r most before after schema ds f
   wide_refused (inl e) = inl e
   wide_refused (inr h) = inr (inr (inl h))
 
-  pub unread_refused : are_i64 ds ≡ true → IsUnread schema f → IsRefusal r most before after schema ds f
+  pub unread_refused : are_i64 ds ≡ true → IsUnread schema f → IsRefusal setting r most before after schema ds f
   unread_refused e (inl m) = inl m
   unread_refused e (inr h) = inr (inr (inr (e, inl h)))
 
-  pub unreported_refused : (d : Document) → are_i64 ds ≡ true → IsReadAs Strict schema d → IsUnreported r d most before after f → IsRefusal r most before after schema ds f
+  pub unreported_refused : (d : Document) → are_i64 ds ≡ true → IsReadAs setting schema d → IsUnreported r d most before after f → IsRefusal setting r most before after schema ds f
   unreported_refused d e read (inl m) = inl m
   unreported_refused d e read (inr (inl t)) = inr (inl (e, (d, read, t)))
   unreported_refused d e read (inr (inr c)) = inr (inr (inr (e, inr (d, read, c))))
@@ -140,17 +140,17 @@ converted_has_none : (r : Relations) (n : ℕ) (d : Document) (f : FaultD) → i
 converted_has_none r n d f e (inl h) = first_is_one r d n most_levels f h (no_faults r n d e) (none_stated r n d e)
 converted_has_none r n d f e (inr (h, s, u)) = not_one u.0 u.1 (unread_in_document r d n most_levels) (none_unread r n d e) u.2
 
-pub no_cause : (r : Relations) (n : ℕ) (schema : Value) (ds : List Data) (f : FaultD) → is_examined r n schema ds ≡ true → IsAccepted schema → IsCause r n schema ds f → ⊥
-no_cause r n schema ds f e a (inl h) = no_wide ds f (both_true (are_i64 ds) (is_converted r n (document_of Strict schema)) e).0 h
-no_cause r n schema ds f e a (inr (h, inl k)) = no_fault schema f a k
-no_cause r n schema ds f e a (inr (h, inr (d, read, k))) =
-    converted_has_none r n d f (sym (ap (is_converted r n) read.read) ∙ (both_true (are_i64 ds) (is_converted r n (document_of Strict schema)) e).1) k
+pub no_cause : (setting : Setting) (r : Relations) (n : ℕ) (schema : Value) (ds : List Data) (f : FaultD) → is_examined setting r n schema ds ≡ true → IsAccepted schema → IsCause setting r n schema ds f → ⊥
+no_cause setting r n schema ds f e a (inl h) = no_wide ds f (both_true (are_i64 ds) (is_converted r n (document_of setting schema)) e).0 h
+no_cause setting r n schema ds f e a (inr (h, inl k)) = no_fault schema f a k
+no_cause setting r n schema ds f e a (inr (h, inr (d, read, k))) =
+    converted_has_none r n d f (sym (ap (is_converted r n) read.read) ∙ (both_true (are_i64 ds) (is_converted r n (document_of setting schema)) e).1) k
 
 -- what is converted is examined
-pub examined_so : (r : Relations) (n : ℕ) (schema : Value) (ds : List Data) (d : Document) → are_i64 ds ≡ true → IsReadAs Strict schema d → faults_of r d n most_levels ≡ [] → stated_in_document r d n most_levels ≡ []
-    → unread_in_document r d n most_levels ≡ [] → is_examined r n schema ds ≡ true
-examined_so r n schema ds d i read none unstated listed =
-    ap (λ (b : Bool). both b (is_converted r n (document_of Strict schema))) i ∙ ap (is_converted r n) read.read
+pub examined_so : (setting : Setting) (r : Relations) (n : ℕ) (schema : Value) (ds : List Data) (d : Document) → are_i64 ds ≡ true → IsReadAs setting schema d → faults_of r d n most_levels ≡ [] → stated_in_document r d n most_levels ≡ []
+    → unread_in_document r d n most_levels ≡ [] → is_examined setting r n schema ds ≡ true
+examined_so setting r n schema ds d i read none unstated listed =
+    ap (λ (b : Bool). both b (is_converted r n (document_of setting schema))) i ∙ ap (is_converted r n) read.read
     ∙ ap (λ (b : Bool). both b (both (is_none_of (stated_in_document r d n most_levels)) (is_none_of (unread_in_document r d n most_levels)))) (ap is_none_of none)
     ∙ ap (λ (b : Bool). both b (is_none_of (unread_in_document r d n most_levels))) (ap is_none_of unstated) ∙ ap is_none_of listed
   where

@@ -4,7 +4,7 @@ use Rattle.std.specs.List.{AllByRecursion, list_all}
 use Rattle.syntax_trees.specs.Item.{ItemD}
 use Rattle.serde_json.specs.Data.{Data}
 use Rattle.json_value.specs.Value.{Value, IsSmall}
-use Rattle.schema_defs.specs.declared.Setting.TheVariants.{Strict}
+use Rattle.schema_defs.specs.declared.Setting.{Setting}
 use Rattle.schema_defs.specs.Texts.{Relations, IsLawful}
 use Rattle.schema_defs.specs.Schema.{Document}
 use Rattle.attr_defs.specs.Texts.{lexed}
@@ -125,8 +125,8 @@ module _ (r : Relations) (d : Document) (depth : ℕ) (values : List Data) (repo
   noteless : report.notes.items ≡ [] → told_notes ≡ []
   noteless e = none_of_none note_of told_notes (sym h.notes ∙ e)
 
-  pub reported : (schema : Value) → IsReadAs Strict schema d → IsReportOf r schema values report
-  reported schema read = record {
+  pub reported : (setting : Setting) (schema : Value) → IsReadAs setting schema d → IsReportOf setting r schema values report
+  reported setting schema read = record {
     document = d;
     is_read = read.read;
     clean = clean;

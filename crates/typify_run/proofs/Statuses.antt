@@ -107,4 +107,4 @@ module _ (c : Call) (all : List ℕ) (before after : Option (List ℕ)) where
 
   -- and of parts in which no fault has its cause
   pub faulty : (status : ℕ) (report : Option Report) (fault : Option Fault) → EndsReading c all before after status report fault → (parts : Parts) (f : FaultD) → IsInput all parts → IsCauseIn c parts f → (status ≡ 1) ⊎ IsCutShort status
-  faulty status report fault h parts f input cause = refused_parts status report fault h parts input (λ r given. no_cause c.texts c.depth (value_of parts.schema) (values_of c.command parts) f given.1 given.2 cause)
+  faulty status report fault h parts f input cause = refused_parts status report fault h parts input (λ r given. no_cause c.setting c.texts c.depth (value_of parts.schema) (values_of c.command parts) f given.1 given.2 cause)

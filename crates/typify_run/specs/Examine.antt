@@ -2,7 +2,7 @@
 use Rattle.std.specs.Prelude.{◌≡◌, ◌&&◌, ◌⊎◌, ℕ, List, [], ◌∷◌, map, Bool, true, false, Option, Some, None}
 use Rattle.serde_json.specs.Data.{Data}
 use Rattle.json_value.specs.Value.{Value}
-use Rattle.schema_defs.specs.declared.Setting.TheVariants.{Strict}
+use Rattle.schema_defs.specs.declared.Setting.{Setting}
 use Rattle.schema_defs.specs.Texts.{Relations}
 use Rattle.schema_defs.specs.Schema.{Document}
 use Rattle.schema_defs.specs.Read.{document_of}
@@ -34,25 +34,25 @@ abbrev pub is_converted : Relations → ℕ → Option Document → Bool
 is_converted r depth None = false
 is_converted r depth (Some d) = is_none_of (faults_of r d depth most_levels) && (is_none_of (stated_in_document r d depth most_levels) && is_none_of (unread_in_document r d depth most_levels))
 
--- the values' numbers are i64, and the schema is a document that is converted
-abbrev pub is_examined : Relations → ℕ → Value → List Data → Bool
-is_examined r depth schema values = are_i64 values && is_converted r depth (document_of Strict schema)
+-- the values' numbers are i64, and the schema is a document, under the setting, that is converted
+abbrev pub is_examined : Setting → Relations → ℕ → Value → List Data → Bool
+is_examined setting r depth schema values = are_i64 values && is_converted r depth (document_of setting schema)
 
 -- why the document that the schema is isn't converted
-abbrev pub IsUnconverted : Relations → ℕ → Value → FaultD → Type 0
-IsUnconverted r depth schema f = (d : Document) × IsReadAs Strict schema d × convert.IsCause r d depth most_levels f
+abbrev pub IsUnconverted : Setting → Relations → ℕ → Value → FaultD → Type 0
+IsUnconverted setting r depth schema f = (d : Document) × IsReadAs setting schema d × convert.IsCause r d depth most_levels f
 
--- the cause of a fault: the first number of the values that is no i64; else the first fault of the document; else why it isn't converted
-abbrev pub IsCause : Relations → ℕ → Value → List Data → FaultD → Type 0
-IsCause r depth schema values f = HasWideNumber values f ⊎ ((are_i64 values ≡ true) × (HasFault schema f ⊎ IsUnconverted r depth schema f))
+-- the cause of a fault: the first number of the values that is no i64; else the first fault of the document, whatever the setting; else why it isn't converted
+abbrev pub IsCause : Setting → Relations → ℕ → Value → List Data → FaultD → Type 0
+IsCause setting r depth schema values f = HasWideNumber values f ⊎ ((are_i64 values ≡ true) × (HasFault schema f ⊎ IsUnconverted setting r depth schema f))
 
 -- a failure of the judge of texts, whose count rose, told at the place of a schema of the document; the values' numbers are i64
-abbrev pub IsTextsFault : Relations → ℕ → ℕ → ℕ → Value → List Data → FaultD → Type 0
-IsTextsFault r depth before after schema values f = (are_i64 values ≡ true) × ((d : Document) × IsReadAs Strict schema d × convert.IsFailure r d depth most_levels before after f)
+abbrev pub IsTextsFault : Setting → Relations → ℕ → ℕ → ℕ → Value → List Data → FaultD → Type 0
+IsTextsFault setting r depth before after schema values f = (are_i64 values ≡ true) × ((d : Document) × IsReadAs setting schema d × convert.IsFailure r d depth most_levels before after f)
 
 -- want of memory, a failure of the judge of texts, or a fault with its cause
-abbrev pub IsRefusal : Relations → ℕ → ℕ → ℕ → Value → List Data → FaultD → Type 0
-IsRefusal r depth before after schema values f = (f ≡ memory) ⊎ (IsTextsFault r depth before after schema values f ⊎ IsCause r depth schema values f)
+abbrev pub IsRefusal : Setting → Relations → ℕ → ℕ → ℕ → Value → List Data → FaultD → Type 0
+IsRefusal setting r depth before after schema values f = (f ≡ memory) ⊎ (IsTextsFault setting r depth before after schema values f ⊎ IsCause setting r depth schema values f)
 
 -- ---- reports
 
@@ -73,11 +73,11 @@ pub record IsMadeOf (r : Relations) (d : Document) (depth : ℕ) (values : List 
 abbrev pub IsUnreported : Relations → Document → ℕ → ℕ → ℕ → FaultD → Type 0
 IsUnreported r d depth before after f = convert.IsRefusal r d depth most_levels before after f
 
--- The report is of what is emitted for the document that the schema is: the items, the table of conversions and the root's type are the emission of the
+-- The report is of what is emitted for the document that the schema is under the setting: the items, the table of conversions and the root's type are the emission of the
 -- table of its entries, and the notes are its notes, in their order. Its schemas have no fault and state no default at an optional property, which would have to be checked, and each listed value is read.
-pub record IsEmission (r : Relations) (depth : ℕ) (schema : Value) (report : Report) : Type 0 where
+pub record IsEmission (setting : Setting) (r : Relations) (depth : ℕ) (schema : Value) (report : Report) : Type 0 where
   pub document : Document
-  pub is_read : IsReadAs Strict schema document
+  pub is_read : IsReadAs setting schema document
   pub emission : emission_in report ≡ emission_of r document depth most_levels
   pub notes : report.notes.items ≡ map note_of (notes_of r document depth most_levels)
   pub faultless : faults_of r document depth most_levels ≡ []

@@ -8,7 +8,7 @@ use Rattle.serde_json.specs.Data.{Data}
 use Rattle.json_value.specs.Value.{Value, IsSmall}
 use Rattle.json_value.specs.View.{value_of}
 use Rattle.schema_defs.specs.Location.{Location}
-use Rattle.schema_defs.specs.declared.Setting.TheVariants.{Strict}
+use Rattle.schema_defs.specs.declared.Setting.{Setting}
 use Rattle.schema_defs.specs.Texts.{Relations, IsLawful}
 use Rattle.schema_defs.specs.Schema.{Document}
 use Rattle.schema_defs.specs.Admits.{admits}
@@ -95,10 +95,10 @@ AreJudged takes settles stops (d ∷ ds) (v ∷ vs) = IsJudged takes settles sto
 AreJudged takes settles stops [] (v ∷ vs) = ⊥
 AreJudged takes settles stops (d ∷ ds) [] = ⊥
 
-pub record IsReportOf (texts : Relations) (schema : Value) (values : List Data) (r : Report) : Type 0 where
-  -- the schema is a document
+pub record IsReportOf (setting : Setting) (texts : Relations) (schema : Value) (values : List Data) (r : Report) : Type 0 where
+  -- the schema is a document, under the setting
   pub document : Document
-  pub is_read : document_of Strict schema ≡ Some document
+  pub is_read : document_of setting schema ≡ Some document
   -- the items have no diagnostic
   pub clean : AllByRecursion IsClean (items_of r)
   -- by lawful texts: without notes the containers read exactly the small values that the document admits, listed or not

@@ -23,21 +23,21 @@ examined Items ds = []
 abbrev pub values_of : Command → Parts → List Data
 values_of command parts = examined command (data_of parts.values)
 
--- the schema is a document that is converted, and the values' numbers are i64
+-- the schema is a document, under the setting, that is converted, and the values' numbers are i64
 abbrev pub is_built : Call → Parts → Bool
-is_built c parts = is_examined c.texts c.depth (value_of parts.schema) (values_of c.command parts)
+is_built c parts = is_examined c.setting c.texts c.depth (value_of parts.schema) (values_of c.command parts)
 
 -- the report is one of the input's schema and values, the schema has no fault, and the items and the notes are those of its document
 abbrev pub IsReported : Call → Parts → Report → Type 0
-IsReported c parts r = IsReportOf c.texts (value_of parts.schema) (values_of c.command parts) r × (is_built c parts ≡ true) × IsAccepted (value_of parts.schema) × IsEmission c.texts c.depth (value_of parts.schema) r
+IsReported c parts r = IsReportOf c.setting c.texts (value_of parts.schema) (values_of c.command parts) r × (is_built c parts ≡ true) × IsAccepted (value_of parts.schema) × IsEmission c.setting c.texts c.depth (value_of parts.schema) r
 
 -- what a fault tells has its cause in the input
 abbrev pub IsCauseIn : Call → Parts → FaultD → Type 0
-IsCauseIn c parts f = IsCause c.texts c.depth (value_of parts.schema) (values_of c.command parts) f
+IsCauseIn c parts f = IsCause c.setting c.texts c.depth (value_of parts.schema) (values_of c.command parts) f
 
 -- or the judge of texts failed, whose count rose, at a schema of the input's document; want of memory is told by its own status
 abbrev pub IsCaused : Call → Parts → Fault → Type 0
-IsCaused c parts f = (fault_view f ≢ memory) × (IsTextsFault c.texts c.depth c.before c.after (value_of parts.schema) (values_of c.command parts) (fault_view f) ⊎ IsCauseIn c parts (fault_view f))
+IsCaused c parts f = (fault_view f ≢ memory) × (IsTextsFault c.setting c.texts c.depth c.before c.after (value_of parts.schema) (values_of c.command parts) (fault_view f) ⊎ IsCauseIn c parts (fault_view f))
 
 abbrev pub line_of : Fault → List ℕ
 line_of f = fault_line (fault_view f)

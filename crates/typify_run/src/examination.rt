@@ -21,7 +21,7 @@ use crate::report::Report;
 use attr_parts::NoCase;
 use derive_model::{Module, Verdict};
 use distinct_names::names_differ;
-use schema_tree::{Conversions, Document, Fault, Texts, check_values};
+use schema_tree::{Conversions, Document, Fault, Setting, Texts, check_values};
 use serde_json::Value;
 use std::alloc::Global;
 use syntax_trees::{DeriveInput, Ty};
@@ -85,12 +85,8 @@ fn report_of<T: Texts>(
     })
 }
 
-/// The items that stand for a schema document, the notes, and a verdict for each value, in order. `depth` bounds the steps from a definition
-/// or the root to a schema of it. Refused are a number of a value that isn't an i64 (`ValueNumber`), then the faults of `Document::read`, then
-/// those of `converted`: the first in the order of conversion, among them the first optional property that states a default, which isn't checked yet
-/// (`Unsupported` of kind `NotYet`), and then the first listed value that its type doesn't read (`InvalidValue`). `Texts` comes where the judge of
-/// texts failed: at the schema that asked it, or at the root where it failed at a value. Fails with `Memory` where memory runs out.
-#[tactic(auto, using(crate::proofs::Causes::wide_refused, crate::proofs::Causes::unread_refused, crate::proofs::Causes::unreported_refused))]
+/// The items that stand for a schema document, the notes, and a verdict for each value, in order: `examine_with` under the setting `Strict`,
+/// where null is a value as any other, with the refusals of that call.
 pub fn examine<T: Texts>(
     alloc: Global,
     document: &Value,
@@ -99,17 +95,46 @@ pub fn examine<T: Texts>(
     texts: &mut T,
 ) -> Result<Report, Fault>
     requires { 1 ≤ depth }
-    ensures report { IfOk result (λ r. IsReportOf (T.relations texts.old) (value_of (view document.now)) (map view values.now) r) }
-    ensures emission { IfOk result (λ r. IsEmission (T.relations texts.old) depth (value_of (view document.now)) r) }
+    ensures report { IfOk result (λ r. IsReportOf Setting.Strict (T.relations texts.old) (value_of (view document.now)) (map view values.now) r) }
+    ensures emission { IfOk result (λ r. IsEmission Setting.Strict (T.relations texts.old) depth (value_of (view document.now)) r) }
     ensures printable { IfOk result (λ r. ArePrintable (map verdict_view r.verdicts.items)) }
-    ensures examined { OnOk result (is_examined (T.relations texts.old) depth (value_of (view document.now)) (map view values.now) ≡ true) }
+    ensures examined { OnOk result (is_examined Setting.Strict (T.relations texts.old) depth (value_of (view document.now)) (map view values.now) ≡ true) }
     ensures accepted { OnOk result (IsAccepted (value_of (view document.now))) }
-    ensures refused { IfErr result (λ f. IsRefusal (T.relations texts.old) depth (T.faults texts.old) (T.faults texts.new) (value_of (view document.now)) (map view values.now) (fault_view f)) }
+    ensures refused { IfErr result (λ f. IsRefusal Setting.Strict (T.relations texts.old) depth (T.faults texts.old) (T.faults texts.new) (value_of (view document.now)) (map view values.now) (fault_view f)) }
+    ensures keeps { T.relations texts.new ≡ T.relations texts.old }
+    ensures counts { T.faults texts.old ≤ T.faults texts.new }
+{
+    examine_with(alloc, document, depth, values, texts, Setting::Strict)
+}
+
+/// The items that stand for a schema document, the notes, and a verdict for each value, in order. `depth` bounds the steps from a definition
+/// or the root to a schema of it. Under the setting `NullAbsent` null may stand for the absence of a property that isn't required; under `Strict`
+/// it is a value as any other. Refused are a number of a value that isn't an i64 (`ValueNumber`), then the faults of `Document::read`, which don't
+/// depend on the setting, then those of `converted`: the first in the order of conversion, among them the first optional property that states a
+/// default, which isn't checked yet (`Unsupported` of kind `NotYet`), and then the first listed value that its type doesn't read (`InvalidValue`).
+/// `Texts` comes where the judge of texts failed: at the schema that asked it, or at the root where it failed at a value. Fails with `Memory`
+/// where memory runs out.
+#[tactic(auto, using(crate::proofs::Causes::wide_refused, crate::proofs::Causes::unread_refused, crate::proofs::Causes::unreported_refused))]
+pub fn examine_with<T: Texts>(
+    alloc: Global,
+    document: &Value,
+    depth: u32,
+    values: &[Value],
+    texts: &mut T,
+    setting: Setting,
+) -> Result<Report, Fault>
+    requires { 1 ≤ depth }
+    ensures report { IfOk result (λ r. IsReportOf setting (T.relations texts.old) (value_of (view document.now)) (map view values.now) r) }
+    ensures emission { IfOk result (λ r. IsEmission setting (T.relations texts.old) depth (value_of (view document.now)) r) }
+    ensures printable { IfOk result (λ r. ArePrintable (map verdict_view r.verdicts.items)) }
+    ensures examined { OnOk result (is_examined setting (T.relations texts.old) depth (value_of (view document.now)) (map view values.now) ≡ true) }
+    ensures accepted { OnOk result (IsAccepted (value_of (view document.now))) }
+    ensures refused { IfErr result (λ f. IsRefusal setting (T.relations texts.old) depth (T.faults texts.old) (T.faults texts.new) (value_of (view document.now)) (map view values.now) (fault_view f)) }
     ensures keeps { T.relations texts.new ≡ T.relations texts.old }
     ensures counts { T.faults texts.old ≤ T.faults texts.new }
 {
     check_values(alloc, values)?;
-    let read = Document::read(alloc, document)?;
+    let read = Document::read_with(alloc, document, setting)?;
     names_differ(document);
     let report = report_of(alloc, &read, depth, values, texts)?;
     Ok(report)

@@ -9,7 +9,7 @@ mod top;
 mod words;
 
 pub use derive_model::Verdict;
-pub use examination::examine;
+pub use examination::{examine, examine_with};
 pub use outcome::Outcome;
 pub use regex_texts::RegexTexts;
 pub use report::Report;
@@ -17,6 +17,7 @@ pub use run_io::{
     Failed, MemorySink, MemorySource, PlainSink, PlainSource, Sink, SinkFault, Source, StdSink,
     StdSource, put,
 };
+pub use schema_tree::Setting;
 pub use top::run;
 pub use typify_convert::{Note, NoteKind, Way};
 pub use whole_numbers::whole_numbers;

@@ -11,10 +11,10 @@ ghost use Rattle.derive_model.specs.VerdictView.{verdict_view};
 ghost use Rattle.typify_run.specs.Call.{Call, call, call_of};
 ghost use Rattle.typify_run.specs.Words.{depth_said};
 
-use crate::examination::examine;
+use crate::examination::examine_with;
 use crate::outcome::Outcome;
 use crate::report::Report;
-use crate::words::{Command, command_of_words, depth_of_words};
+use crate::words::{Asked, Command, command_of_words, depth_of_words, setting_of_words};
 use run_input::{InputError, LIMIT, input_parts, input_value};
 use run_io::{InputFault, Sink, SinkFault, Source, put, read_input};
 use schema_tree::{Fault, Texts};
@@ -22,13 +22,13 @@ use serde_json::Value;
 use std::alloc::Global;
 
 // The report printed.
-fn print_report<K: Sink>(alloc: Global, command: Command, report: Report, sink: &mut K) -> Outcome
+fn print_report<K: Sink>(alloc: Global, asked: Asked, report: Report, sink: &mut K) -> Outcome
     requires { ArePrintable (map verdict_view report.verdicts.items) }
-    ensures answer { (depth : ℕ) (texts : Relations) (before after : ℕ) (parts : Parts) → IsReported (call command depth texts before after) parts report → Answers (call command depth texts before after) parts (K.written sink.old) (K.written sink.new) result.status result.report result.fault }
+    ensures answer { (texts : Relations) (before after : ℕ) (parts : Parts) → IsReported (call asked texts before after) parts report → Answers (call asked texts before after) parts (K.written sink.old) (K.written sink.new) result.status result.report result.fault }
     ensures write_fault { result.status ≡ 5 → Rises (K.faults sink.old) (K.faults sink.new) }
     ensures kept { K.faults sink.old ≤ K.faults sink.new }
 {
-    let Ok(page) = report.page_of(alloc, command) else {
+    let Ok(page) = report.page_of(alloc, asked.command) else {
         return Outcome::bare(6);
     };
     match put(sink, page.as_bytes()) {
@@ -83,22 +83,21 @@ fn examined<'a>(command: Command, values: &'a [Value]) -> &'a [Value]
 // The schema and the values examined, and what comes of it printed.
 fn run_parts<K: Sink, T: Texts>(
     alloc: Global,
-    command: Command,
-    depth: u32,
+    asked: Asked,
     schema: &Value,
     values: &[Value],
     sink: &mut K,
     texts: &mut T,
 ) -> Outcome
-    requires { 1 ≤ depth }
-    ensures answer { (parts : Parts) → parts.schema ≡ view schema.now → values_of command parts ≡ map view values.now → Answers (call command depth (T.relations texts.old) (T.faults texts.old) (T.faults texts.new)) parts (K.written sink.old) (K.written sink.new) result.status result.report result.fault }
+    requires { 1 ≤ asked.depth }
+    ensures answer { (parts : Parts) → parts.schema ≡ view schema.now → values_of asked.command parts ≡ map view values.now → Answers (call asked (T.relations texts.old) (T.faults texts.old) (T.faults texts.new)) parts (K.written sink.old) (K.written sink.new) result.status result.report result.fault }
     ensures write_fault { result.status ≡ 5 → Rises (K.faults sink.old) (K.faults sink.new) }
     ensures kept { K.faults sink.old ≤ K.faults sink.new }
     ensures keeps { T.relations texts.new ≡ T.relations texts.old }
     ensures counts { T.faults texts.old ≤ T.faults texts.new }
 {
-    match examine(alloc, schema, depth, values, texts) {
-        Ok(report) => print_report(alloc, command, report, sink),
+    match examine_with(alloc, schema, asked.depth, values, texts, asked.setting) {
+        Ok(report) => print_report(alloc, asked, report, sink),
         Err(fault) => {
             if fault.is_memory() {
                 Outcome::bare(6)
@@ -112,15 +111,14 @@ fn run_parts<K: Sink, T: Texts>(
 // The bytes of an input read, and examined.
 fn run_bytes<K: Sink, T: Texts>(
     alloc: Global,
-    command: Command,
-    depth: u32,
+    asked: Asked,
     bytes: &[u8],
     sink: &mut K,
     texts: &mut T,
 ) -> Outcome
-    requires depth { 1 ≤ depth }
+    requires depth { 1 ≤ asked.depth }
     requires short { length bytes.now ≤ limit }
-    ensures ends { Ends (call command depth (T.relations texts.old) (T.faults texts.old) (T.faults texts.new)) bytes.now (K.written sink.old) (K.written sink.new) result.status result.report result.fault }
+    ensures ends { Ends (call asked (T.relations texts.old) (T.faults texts.old) (T.faults texts.new)) bytes.now (K.written sink.old) (K.written sink.new) result.status result.report result.fault }
     ensures write_fault { result.status ≡ 5 → Rises (K.faults sink.old) (K.faults sink.new) }
     ensures kept { K.faults sink.old ≤ K.faults sink.new }
     ensures keeps { T.relations texts.new ≡ T.relations texts.old }
@@ -134,10 +132,9 @@ fn run_bytes<K: Sink, T: Texts>(
     match input_parts(&value) {
         Some(parts) => run_parts(
             alloc,
-            command,
-            depth,
+            asked,
             parts.schema,
-            examined(command, parts.values),
+            examined(asked.command, parts.values),
             sink,
             texts,
         ),
@@ -148,15 +145,14 @@ fn run_bytes<K: Sink, T: Texts>(
 // The input read to its end, and examined.
 fn run_command<S: Source, K: Sink, T: Texts>(
     alloc: Global,
-    command: Command,
-    depth: u32,
+    asked: Asked,
     source: &mut S,
     sink: &mut K,
     texts: &mut T,
 ) -> Outcome
-    requires { 1 ≤ depth }
-    ensures ends { (all : List ℕ) → S.left source.old ≡ Some all → EndsReading (call command depth (T.relations texts.old) (T.faults texts.old) (T.faults texts.new)) all (K.written sink.old) (K.written sink.new) result.status result.report result.fault }
-    ensures carried { IsCarried (call command depth (T.relations texts.old) (T.faults texts.old) (T.faults texts.new)) (K.written sink.old) (K.written sink.new) result.status result.report result.fault }
+    requires { 1 ≤ asked.depth }
+    ensures ends { (all : List ℕ) → S.left source.old ≡ Some all → EndsReading (call asked (T.relations texts.old) (T.faults texts.old) (T.faults texts.new)) all (K.written sink.old) (K.written sink.new) result.status result.report result.fault }
+    ensures carried { IsCarried (call asked (T.relations texts.old) (T.faults texts.old) (T.faults texts.new)) (K.written sink.old) (K.written sink.new) result.status result.report result.fault }
     ensures built { result.status ≢ 2 }
     ensures within { result.status ≤ 6 }
     ensures spent { (all : List ℕ) → S.left source.old ≡ Some all → IsPrinting result.status → S.left source.new ≡ Some [] }
@@ -168,7 +164,7 @@ fn run_command<S: Source, K: Sink, T: Texts>(
     ensures counts { T.faults texts.old ≤ T.faults texts.new }
 {
     match read_input(alloc, source, LIMIT) {
-        Ok(bytes) => run_bytes(alloc, command, depth, &bytes, sink, texts),
+        Ok(bytes) => run_bytes(alloc, asked, &bytes, sink, texts),
         Err(InputFault::Memory) => Outcome::bare(6),
         Err(InputFault::Failed) => Outcome::bare(4),
         Err(InputFault::TooLong) => Outcome::bare(3),
@@ -178,7 +174,8 @@ fn run_command<S: Source, K: Sink, T: Texts>(
 /// Runs the program: the words after its name, an input from the source, the page or the line of a fault to the sink.
 /// `check DEPTH`, with DEPTH from 1 to 512, reads one JSON object with exactly the members `schema` and `values`, the
 /// latter a list, in at most 16,777,216 bytes, and examines them. `items DEPTH` reads the same, passes over the values, and prints
-/// the text of each item, each `Self` replaced as serde's derives do. The outcome's status says how it ended.
+/// the text of each item, each `Self` replaced as serde's derives do. With `--null-absent` as the last word null may stand for the
+/// absence of a property that isn't required. The outcome's status says how it ended.
 pub fn run<S: Source, K: Sink, T: Texts>(
     alloc: Global,
     words: &[String],
@@ -207,7 +204,14 @@ pub fn run<S: Source, K: Sink, T: Texts>(
     ensures counts { T.faults texts.old ≤ T.faults texts.new }
 {
     match depth_of_words(words) {
-        Some(depth) => run_command(alloc, command_of_words(words), depth, source, sink, texts),
+        Some(depth) => {
+            let asked = Asked {
+                command: command_of_words(words),
+                depth,
+                setting: setting_of_words(words),
+            };
+            run_command(alloc, asked, source, sink, texts)
+        }
         None => Outcome::bare(2),
     }
 }

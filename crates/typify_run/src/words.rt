@@ -1,6 +1,8 @@
 //! The words of the command line.
 ghost use Rattle.std.specs.Prelude.{◌≡◌, ◌≤◌, ◌-◌, map, string_bytes, true, IfSome, IsTrue};
-ghost use Rattle.typify_run.specs.Words.{command_of, depth_said, depth_of as depth_read, is_digit as is_digit_of, is_leading as is_leading_of, up_to};
+ghost use Rattle.typify_run.specs.Words.{command_of, depth_in as depth_in_of, depth_said, depth_of as depth_read, is_digit as is_digit_of, is_leading as is_leading_of, is_null_absent as is_null_absent_of, setting_said, up_to};
+
+use schema_tree::Setting;
 
 /// What the words ask for.
 #[derive(Clone, Copy)]
@@ -11,15 +13,24 @@ pub(crate) enum Command {
     Items,
 }
 
-/// The depth that `check DEPTH` or `items DEPTH` names, a number from 1 to 512; nothing for any other words.
+/// What the words ask for, at which depth, and under which setting.
+#[derive(Clone, Copy)]
+pub(crate) struct Asked {
+    pub command: Command,
+    pub depth: u32,
+    pub setting: Setting,
+}
+
+/// The depth that `check DEPTH` or `items DEPTH` names, a number from 1 to 512, alone or with `--null-absent` behind it; nothing for any other words.
 pub(crate) fn depth_of_words(words: &[String]) -> Option<u32>
     ensures exact { result ≡ depth_said (map string_bytes words.now) }
     ensures within { IfSome result (λ n. 1 ≤ n) }
 {
     match words {
-        [word, depth] => {
-            if word.as_str() == "check" || word.as_str() == "items" {
-                depth_of(depth.as_bytes())
+        [word, depth] => depth_in(word, depth),
+        [word, depth, option] => {
+            if is_null_absent(option) {
+                depth_in(word, depth)
             } else {
                 None
             }
@@ -33,14 +44,48 @@ pub(crate) fn command_of_words(words: &[String]) -> Command
     ensures { result ≡ command_of (map string_bytes words.now) }
 {
     match words {
-        [word, _] => {
+        [word, ..] => {
             if word.as_str() == "items" {
                 Command::Items
             } else {
                 Command::Check
             }
         }
-        _ => Command::Check,
+        [] => Command::Check,
+    }
+}
+
+/// The setting that the words ask for, where they are some of the forms: `NullAbsent` where the third is `--null-absent`.
+pub(crate) fn setting_of_words(words: &[String]) -> Setting
+    ensures { result ≡ setting_said (map string_bytes words.now) }
+{
+    match words {
+        [_, _, option, ..] => {
+            if is_null_absent(option) {
+                Setting::NullAbsent
+            } else {
+                Setting::Strict
+            }
+        }
+        _ => Setting::Strict,
+    }
+}
+
+fn is_null_absent(word: &str) -> bool
+    ensures { result ≡ is_null_absent_of word.now }
+{
+    word == "--null-absent"
+}
+
+// The depth that a command and a number say.
+fn depth_in(word: &str, depth: &str) -> Option<u32>
+    ensures exact { result ≡ depth_in_of word.now depth.now }
+    ensures within { IfSome result (λ n. 1 ≤ n) }
+{
+    if word == "check" || word == "items" {
+        depth_of(depth.as_bytes())
+    } else {
+        None
     }
 }
 

@@ -1,7 +1,7 @@
 use Rattle.std.proofs.Common.{inl, inr, ◌⊎◌, ◌≡◌, ℕ, subst, map, string_bytes}
 use Rattle.typify_run.specs.Call.{Call, call_of}
 use Rattle.typify_run.specs.Outcome.{EndsReading, IsCarried, IsCutShort}
-use Rattle.typify_run.specs.Words.{command_of, depth_said}
+use Rattle.typify_run.specs.declared.words.Asked.{Asked}
 use Rattle.typify_run.proofs.Calls.{same_call}
 use Rattle.typify_run.proofs.Statuses.{report_printed, fault_printed, no_input, writing_cut, memory_spent, refused, not_built, faulty}
 use Rattle.typify_run.proofs.top.run.Goals as goal
@@ -24,7 +24,8 @@ returns-in-Some-clause-carried g c =
     let before = g.K.Sink.written c.args.sink.now in
     let after = g.K.Sink.written c.run_command.new.sink in
     let asked = call_of words texts faults faults' in
-    let same = same_call c.command_of_words.result (command_of words) c.in-Some.depth (depth_said words) texts faults faults' c.command_of_words.ensures c.in-Some.ensures.exact in
+    let said : Asked = record { command = c.command_of_words.result; depth = c.in-Some.depth; setting = c.setting_of_words.result } in
+    let same = same_call said words texts faults faults' c.command_of_words.ensures c.in-Some.ensures.exact c.setting_of_words.ensures in
     subst (λ (k : Call). IsCarried k before after o.status o.report o.fault) same c.run_command.ensures.carried
 
 pub returns-in-Some-clause-report : goal.returns-in-Some-clause-report
@@ -37,7 +38,8 @@ returns-in-Some-clause-report g c = λ all left e.
     let before = g.K.Sink.written c.args.sink.now in
     let after = g.K.Sink.written c.run_command.new.sink in
     let asked = call_of words texts faults faults' in
-    let same = same_call c.command_of_words.result (command_of words) c.in-Some.depth (depth_said words) texts faults faults' c.command_of_words.ensures c.in-Some.ensures.exact in
+    let said : Asked = record { command = c.command_of_words.result; depth = c.in-Some.depth; setting = c.setting_of_words.result } in
+    let same = same_call said words texts faults faults' c.command_of_words.ensures c.in-Some.ensures.exact c.setting_of_words.ensures in
     let ends = subst (λ (k : Call). EndsReading k all before after o.status o.report o.fault) same (c.run_command.ensures.ends all left) in
     report_printed asked all before after o.status o.report o.fault ends e
 
@@ -51,7 +53,8 @@ returns-in-Some-clause-fault g c = λ all left e.
     let before = g.K.Sink.written c.args.sink.now in
     let after = g.K.Sink.written c.run_command.new.sink in
     let asked = call_of words texts faults faults' in
-    let same = same_call c.command_of_words.result (command_of words) c.in-Some.depth (depth_said words) texts faults faults' c.command_of_words.ensures c.in-Some.ensures.exact in
+    let said : Asked = record { command = c.command_of_words.result; depth = c.in-Some.depth; setting = c.setting_of_words.result } in
+    let same = same_call said words texts faults faults' c.command_of_words.ensures c.in-Some.ensures.exact c.setting_of_words.ensures in
     let ends = subst (λ (k : Call). EndsReading k all before after o.status o.report o.fault) same (c.run_command.ensures.ends all left) in
     fault_printed asked all before after o.status o.report o.fault ends e
 
@@ -65,7 +68,8 @@ returns-in-Some-clause-no_input g c = λ all left e.
     let before = g.K.Sink.written c.args.sink.now in
     let after = g.K.Sink.written c.run_command.new.sink in
     let asked = call_of words texts faults faults' in
-    let same = same_call c.command_of_words.result (command_of words) c.in-Some.depth (depth_said words) texts faults faults' c.command_of_words.ensures c.in-Some.ensures.exact in
+    let said : Asked = record { command = c.command_of_words.result; depth = c.in-Some.depth; setting = c.setting_of_words.result } in
+    let same = same_call said words texts faults faults' c.command_of_words.ensures c.in-Some.ensures.exact c.setting_of_words.ensures in
     let ends = subst (λ (k : Call). EndsReading k all before after o.status o.report o.fault) same (c.run_command.ensures.ends all left) in
     no_input asked all before after o.status o.report o.fault ends e
 
@@ -79,7 +83,8 @@ returns-in-Some-clause-writing_cut g c = λ all left e.
     let before = g.K.Sink.written c.args.sink.now in
     let after = g.K.Sink.written c.run_command.new.sink in
     let asked = call_of words texts faults faults' in
-    let same = same_call c.command_of_words.result (command_of words) c.in-Some.depth (depth_said words) texts faults faults' c.command_of_words.ensures c.in-Some.ensures.exact in
+    let said : Asked = record { command = c.command_of_words.result; depth = c.in-Some.depth; setting = c.setting_of_words.result } in
+    let same = same_call said words texts faults faults' c.command_of_words.ensures c.in-Some.ensures.exact c.setting_of_words.ensures in
     let ends = subst (λ (k : Call). EndsReading k all before after o.status o.report o.fault) same (c.run_command.ensures.ends all left) in
     writing_cut asked all before after o.status o.report o.fault ends e
 
@@ -93,7 +98,8 @@ returns-in-Some-clause-memory g c = λ all left e.
     let before = g.K.Sink.written c.args.sink.now in
     let after = g.K.Sink.written c.run_command.new.sink in
     let asked = call_of words texts faults faults' in
-    let same = same_call c.command_of_words.result (command_of words) c.in-Some.depth (depth_said words) texts faults faults' c.command_of_words.ensures c.in-Some.ensures.exact in
+    let said : Asked = record { command = c.command_of_words.result; depth = c.in-Some.depth; setting = c.setting_of_words.result } in
+    let same = same_call said words texts faults faults' c.command_of_words.ensures c.in-Some.ensures.exact c.setting_of_words.ensures in
     let ends = subst (λ (k : Call). EndsReading k all before after o.status o.report o.fault) same (c.run_command.ensures.ends all left) in
     memory_spent asked all before after o.status o.report o.fault ends e
 
@@ -107,7 +113,8 @@ returns-in-Some-clause-refused g c = λ all left none.
     let before = g.K.Sink.written c.args.sink.now in
     let after = g.K.Sink.written c.run_command.new.sink in
     let asked = call_of words texts faults faults' in
-    let same = same_call c.command_of_words.result (command_of words) c.in-Some.depth (depth_said words) texts faults faults' c.command_of_words.ensures c.in-Some.ensures.exact in
+    let said : Asked = record { command = c.command_of_words.result; depth = c.in-Some.depth; setting = c.setting_of_words.result } in
+    let same = same_call said words texts faults faults' c.command_of_words.ensures c.in-Some.ensures.exact c.setting_of_words.ensures in
     let ends = subst (λ (k : Call). EndsReading k all before after o.status o.report o.fault) same (c.run_command.ensures.ends all left) in
     aside o.status (refused asked all before after o.status o.report o.fault ends none)
 
@@ -121,7 +128,8 @@ returns-in-Some-clause-not_built g c = λ all parts left input other.
     let before = g.K.Sink.written c.args.sink.now in
     let after = g.K.Sink.written c.run_command.new.sink in
     let asked = call_of words texts faults faults' in
-    let same = same_call c.command_of_words.result (command_of words) c.in-Some.depth (depth_said words) texts faults faults' c.command_of_words.ensures c.in-Some.ensures.exact in
+    let said : Asked = record { command = c.command_of_words.result; depth = c.in-Some.depth; setting = c.setting_of_words.result } in
+    let same = same_call said words texts faults faults' c.command_of_words.ensures c.in-Some.ensures.exact c.setting_of_words.ensures in
     let ends = subst (λ (k : Call). EndsReading k all before after o.status o.report o.fault) same (c.run_command.ensures.ends all left) in
     between o.status (not_built asked all before after o.status o.report o.fault ends parts input other)
 
@@ -135,6 +143,7 @@ returns-in-Some-clause-faulty g c = λ all parts f left input cause.
     let before = g.K.Sink.written c.args.sink.now in
     let after = g.K.Sink.written c.run_command.new.sink in
     let asked = call_of words texts faults faults' in
-    let same = same_call c.command_of_words.result (command_of words) c.in-Some.depth (depth_said words) texts faults faults' c.command_of_words.ensures c.in-Some.ensures.exact in
+    let said : Asked = record { command = c.command_of_words.result; depth = c.in-Some.depth; setting = c.setting_of_words.result } in
+    let same = same_call said words texts faults faults' c.command_of_words.ensures c.in-Some.ensures.exact c.setting_of_words.ensures in
     let ends = subst (λ (k : Call). EndsReading k all before after o.status o.report o.fault) same (c.run_command.ensures.ends all left) in
     between o.status (faulty asked all before after o.status o.report o.fault ends parts f input cause)

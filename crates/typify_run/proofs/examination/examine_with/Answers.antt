@@ -1,25 +1,25 @@
 use Rattle.std.proofs.Common.{map}
 use Rattle.serde_json.specs.View.{view}
 use Rattle.json_value.specs.View.{value_of}
-use Rattle.schema_defs.specs.declared.Setting.TheVariants.{Strict}
 use Rattle.schema_tree.specs.Document.{view as document_seen}
+use Rattle.schema_tree.proofs.Settings.{read_strictly}
 use Rattle.document_laws.specs.Laws.{WasRead}
 use Rattle.typify_run.proofs.Reported.{reported, all_printable}
 use Rattle.schema_tree.specs.Fault.{fault_view}
 use Rattle.typify_run.specs.Examine.{IsRefusal}
 use Rattle.typify_run.proofs.Causes.{examined_so, told_of_fault, unreported_refused}
-use Rattle.typify_run.proofs.examination.examine.Goals as goal
+use Rattle.typify_run.proofs.examination.examine_with.Goals as goal
 
 pub report_of-requires-clause-read : goal.report_of-requires-clause-read
 report_of-requires-clause-read g c =
-    record { setting = Strict; value = value_of (view c.args.document.now); read = c.in_ok-read.ensures.document; differ = c.names_differ.ensures }
+    record { setting = c.args.setting; value = value_of (view c.args.document.now); read = c.in_ok-read.ensures.document; differ = c.names_differ.ensures }
 
 pub returns-clause-report : goal.returns-clause-report
 returns-clause-report g c =
     let r = g.T.Texts.relations c.args.texts.now in
     let d = document_seen c.in_ok-read.read in
-    let was_read : WasRead d = record { setting = Strict; value = value_of (view c.args.document.now); read = c.in_ok-read.ensures.document; differ = c.names_differ.ensures } in
-    reported r d c.args.depth (map view c.args.values.now) c.in_ok-report.report was_read c.in_ok-report.ensures.report (value_of (view c.args.document.now)) c.in_ok-read.ensures.document
+    let was_read : WasRead d = record { setting = c.args.setting; value = value_of (view c.args.document.now); read = c.in_ok-read.ensures.document; differ = c.names_differ.ensures } in
+    reported r d c.args.depth (map view c.args.values.now) c.in_ok-report.report was_read c.in_ok-report.ensures.report c.args.setting (value_of (view c.args.document.now)) c.in_ok-read.ensures.document
 
 pub returns-clause-emission : goal.returns-clause-emission
 returns-clause-emission g c =
@@ -38,17 +38,17 @@ pub returns-clause-printable : goal.returns-clause-printable
 returns-clause-printable g c =
     let r = g.T.Texts.relations c.args.texts.now in
     let d = document_seen c.in_ok-read.read in
-    let was_read : WasRead d = record { setting = Strict; value = value_of (view c.args.document.now); read = c.in_ok-read.ensures.document; differ = c.names_differ.ensures } in
+    let was_read : WasRead d = record { setting = c.args.setting; value = value_of (view c.args.document.now); read = c.in_ok-read.ensures.document; differ = c.names_differ.ensures } in
     all_printable r d c.args.depth (map view c.args.values.now) c.in_ok-report.report was_read c.in_ok-report.ensures.report c.in_ok-check_values.ensures.fine
 
 pub returns-clause-examined : goal.returns-clause-examined
 returns-clause-examined g c =
     let h = c.in_ok-report.ensures.report in
-    examined_so (g.T.Texts.relations c.args.texts.now) c.args.depth (value_of (view c.args.document.now)) (map view c.args.values.now) (document_seen c.in_ok-read.read)
+    examined_so c.args.setting (g.T.Texts.relations c.args.texts.now) c.args.depth (value_of (view c.args.document.now)) (map view c.args.values.now) (document_seen c.in_ok-read.read)
     c.in_ok-check_values.ensures.fine c.in_ok-read.ensures.document h.faultless h.unstated h.listed
 
 pub returns-clause-accepted : goal.returns-clause-accepted
-returns-clause-accepted g c = (document_seen c.in_ok-read.read, c.in_ok-read.ensures.document)
+returns-clause-accepted g c = read_strictly c.args.setting (value_of (view c.args.document.now)) (document_seen c.in_ok-read.read) c.in_ok-read.ensures.document
 
 pub returns-in_err-report-clause-refused : goal.returns-in_err-report-clause-refused
 returns-in_err-report-clause-refused g c =
@@ -58,5 +58,5 @@ returns-in_err-report-clause-refused g c =
     let schema = value_of (view c.args.document.now) in
     let values = map view c.args.values.now in
     let fault = c.in_err-report.field-0.0 in
-    told_of_fault c.from_residual-in_err-report.result fault (λ f. IsRefusal r c.args.depth before after schema values f) c.from_residual-in_err-report.ensures.1
-    (unreported_refused r c.args.depth before after schema values (fault_view fault) (document_seen c.in_ok-read.read) c.in_ok-check_values.ensures.fine c.in_ok-read.ensures.document c.in_err-report.ensures.refused)
+    told_of_fault c.from_residual-in_err-report.result fault (λ f. IsRefusal c.args.setting r c.args.depth before after schema values f) c.from_residual-in_err-report.ensures.1
+    (unreported_refused c.args.setting r c.args.depth before after schema values (fault_view fault) (document_seen c.in_ok-read.read) c.in_ok-check_values.ensures.fine c.in_ok-read.ensures.document c.in_err-report.ensures.refused)
