@@ -14,7 +14,8 @@ use scalar_rows::is_null;
 use schema_tree::{TextFault, Texts};
 use serde_json::Value;
 
-fn given_rule_holds<T: Texts>(
+/// Whether the value meets the rule, where one is given. It fails as `rule_holds` does.
+pub fn given_rule_holds<T: Texts>(
     rule: &Option<TreeRule<'_>>,
     value: &Value,
     texts: &mut T,

@@ -1,0 +1,4 @@
+pub mod Alike
+pub mod Taken
+pub mod Related
+pub mod Stays

@@ -1,0 +1,5 @@
+pub mod Found
+pub mod Layer
+pub mod Supplied
+pub mod Laws
+pub mod Examples

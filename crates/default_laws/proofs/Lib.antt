@@ -1,0 +1,15 @@
+pub mod Nameless
+pub mod NamedDefaults
+pub mod AsFound
+pub mod Says
+pub mod Lists
+pub mod Structs
+pub mod Enums
+pub mod Level
+pub mod Filled
+pub mod Standing
+pub mod Values
+pub mod Below
+pub mod Once
+pub mod AllSound
+pub mod Ending

@@ -1,0 +1,15 @@
+pub mod Arms
+pub mod Counted
+pub mod Enums
+pub mod Forms
+pub mod Joined
+pub mod Levels
+pub mod Loops
+pub mod Measure
+pub mod Names
+pub mod Order
+pub mod Owned
+pub mod Structs
+pub mod Trees
+pub mod Turns
+pub mod Weights
