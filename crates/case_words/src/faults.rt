@@ -65,7 +65,6 @@ fn invalid_word(kind: InvalidKind) -> &'static str {
 
 fn unsupported_word(kind: UnsupportedKind) -> &'static str {
     match kind {
-        UnsupportedKind::NotYet => "NotYet",
         UnsupportedKind::Conditional => "Unsupported Conditional",
         UnsupportedKind::Mix => "Unsupported Mix",
         UnsupportedKind::MixedEnum => "Unsupported MixedEnum",

@@ -11,7 +11,6 @@ pub mod Table
 pub mod Convert
 pub mod Faults
 pub mod Values
-pub mod WorkedValues
 pub mod Worked
 pub mod Entries
 pub mod Laws

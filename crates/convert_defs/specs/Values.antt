@@ -1,18 +1,11 @@
--- Values that a schema of the conversion tree states and that what it is converted to doesn't read: its default, and those that Allow and Deny list.
--- That a default comes round to itself, by fields that it leaves out, is not told here.
-use Rattle.std.specs.Prelude.{ℕ, ◌&&◌, not, ℤ, int_le, List, [], ◌∷◌, ◌++◌, filter, map, Bool, true, Option, Some, None, option_map, if◌then◌else◌}
+-- What the rules of rows list, and whether a default lies within an integer's bounds.
+use Rattle.std.specs.Prelude.{◌&&◌, ℤ, int_le, List, [], Bool, true, Option, Some, None, option_map}
 use Rattle.json_value.specs.Value.{Value, number}
-use Rattle.schema_defs.specs.Location.{Location}
-use Rattle.schema_defs.specs.Texts.{Relations}
-use Rattle.schema_defs.specs.Schema.{Plain, Schema, object, Document}
+use Rattle.schema_defs.specs.Schema.{Plain, Schema, object}
 use Rattle.model_defs.specs.Model.{RuleD, text_rule, allow_rule, deny_rule}
 use Rattle.entry_defs.specs.Entry.{Entry, integer_entry, item, newtype_shape}
-use Rattle.entry_defs.specs.Takes.{takes}
 use Rattle.convert_defs.specs.Row.{Row, leaf_row, ruled_row}
 use Rattle.convert_defs.specs.IntegerRow.{least_of, greatest_of, numbers_or_none, format_range, or_else}
-use Rattle.convert_defs.specs.Owners.{default_of}
-use Rattle.convert_defs.specs.Table.{row_of}
-use Rattle.convert_defs.specs.Convert.{Node, document_tree, table_of}
 
 -- ---- an integer's bounds, the format's where none is given
 
@@ -54,22 +47,3 @@ listed_in w = []
 abbrev pub inner_of : Entry → Entry
 inner_of (item n (newtype_shape e rule)) = e
 inner_of e = e
-
-module _ (r : Relations) (d : Document) (depth : ℕ) where
-  abbrev pub is_read : Entry → Value → Bool
-  is_read e v = takes (table_of r d depth) r e v
-
-  abbrev pub unread_default : Node → Option Value → List Value
-  unread_default t None = []
-  unread_default t (Some v) = if is_read t.entry v && fits_row (row_of r d t.schema) t.schema v then [] else v ∷ []
-
-  abbrev pub unread_at : Node → List Value
-  unread_at t = unread_default t (default_of t.schema) ++ filter (λ v. not (is_read (inner_of t.entry) v)) (listed_in (row_of r d t.schema))
-
-  abbrev pub unread_in : List Node → List (Location × Value)
-  unread_in [] = []
-  unread_in (t ∷ ts) = map (λ v. (t.place, v)) (unread_at t) ++ unread_in ts
-
-  -- in the order of conversion
-  abbrev pub unread_values : List (Location × Value)
-  unread_values = unread_in (document_tree r d depth)

@@ -4,7 +4,6 @@ ghost use Rattle.convert_defs.specs.Entries.{SharedEntries, WorkedEntries};
 ghost use Rattle.convert_defs.specs.Pages.{FirstPages, SecondPages};
 ghost use Rattle.convert_defs.specs.StagePages.{MoreStagePages, StagePages};
 ghost use Rattle.convert_defs.specs.WorkedFaults.{WorkedFaults};
-ghost use Rattle.convert_defs.specs.WorkedValues.{WorkedValues};
 ghost use Rattle.convert_defs.specs.Worked.{WorkedVerdicts, WorkedNotes};
 
 /// Which values the entries of worked documents take.
@@ -50,9 +49,4 @@ pub fn stage_pages()
 /// More of them: references, constants, null as absence, faults, and what places share.
 pub fn more_stage_pages()
     ensures { MoreStagePages }
-{}
-
-/// Defaults and listed values that aren't read.
-pub fn worked_values()
-    ensures { WorkedValues }
 {}

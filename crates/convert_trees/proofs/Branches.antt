@@ -10,7 +10,7 @@ use Rattle.row_types.specs.declared.finding.Branch.{Branch}
 use Rattle.row_types.specs.View.{branch_view}
 use Rattle.schema_tree.specs.Fault.{FaultD, memory, depth}
 use Rattle.convert_trees.specs.Told.{Refuses}
-use Rattle.convert_trees.proofs.Defaults.{drop_past}
+use Rattle.merged_rows.proofs.Trails.{drop_past}
 use Rattle.convert_trees.proofs.Telling.{cut_refuses, refuses_first}
 use Rattle.attr_parts.proofs.Added.{mapped_drop}
 

@@ -18,10 +18,9 @@ use Rattle.row_trees.specs.Build.{built}
 use Rattle.row_trees.proofs.Rows.{rows_are_built}
 use Rattle.row_merges.specs.Merges.{MergeD, merges_in}
 use Rattle.convert_trees.specs.Keeping.{KeptD, with_unread}
-use Rattle.stated_walks.specs.Stated.{part_places, stated_parts}
-use Rattle.convert_trees.specs.Unread.{unread_of, unread_listed}
+use Rattle.convert_trees.specs.Unread.{unread_of, unread_in}
 use Rattle.convert_trees.specs.Told as told
-use Rattle.convert_trees.specs.Told.{NoAnswer, AreFine, IsTold, IsToldOf, RefusesBy, unanswered, by_cause, TellsStated, out_of_memory, by_default, Refuses, by_none, by_fault, RefusesOf, at_schema, at_parts, Begins}
+use Rattle.convert_trees.specs.Told.{NoAnswer, AreFine, IsTold, IsToldOf, RefusesBy, unanswered, by_cause, Refuses, by_none, by_fault, RefusesOf, at_schema, at_parts, Begins}
 use Rattle.convert_trees.proofs.Telling.{none_of_first, none_fine, both_fine, refuses_first, refuses_second, tells_head, cut_refuses, told_by_levels, refuses_by_levels}
 
 -- a schema that is converted, and what is below it
@@ -79,7 +78,7 @@ module _ (r : Relations) (d : Document) (most n : ℕ) (o : Spot) (s : Schema) w
     abbrev by_rows : List Cause → List (Location × Reason)
     by_rows cs = map (λ c. (o.path, by_row c)) cs
 
-    -- ---- a refusal, of the schema itself, of its default, of its branches or of its parts
+    -- ---- a refusal, of the schema itself, of its branches or of its parts
 
     module _ (f : FaultD) (old new : ℕ) where
       abbrev Refused : Type 0
@@ -101,27 +100,13 @@ module _ (r : Relations) (d : Document) (most n : ℕ) (o : Spot) (s : Schema) w
       pub own_here : RefusesBy o.path s fd old new (finding_faults r d most fd) f → Refused
       own_here k = whole_refuses (own_by (subst (λ (fd : Finding). RefusesBy o.path s fd old new (finding_faults r d most fd) f) e k))
 
-      no_faults : finding_faults r d most fd ≡ [] → by_rows (finding_faults r d most (finding_of r d s)) ≡ []
-      no_faults g = ap (λ (fd : Finding). by_rows (finding_faults r d most fd)) (sym e) ∙ ap by_rows g
+    own_fine : finding_faults r d most fd ≡ [] → AreFine r d most n (node_with None ∷ [])
+    own_fine g = record { faultless = ap (λ (fd : Finding). by_rows (finding_faults r d most fd) ++ []) (sym e) ∙ ap (λ cs. by_rows cs ++ []) g }
 
-      stated_by_first : finding_faults r d most fd ≡ [] → TellsStated (part_places o (finding_of r d s).branches (stated_parts (row_of r d s))) f
-          → Refuses r d most n old new (node_with None ∷ (cut_below ++ parts_below)) f
-      stated_by_first g (out_of_memory k) = by_none (told.no_memory k)
-      stated_by_first g (by_default l more h k) = by_fault (tells_head r d most n f (node_with None) (cut_below ++ parts_below) (told.of_default l more (no_faults g) h k))
-
-      pub stated_here : finding_faults r d most fd ≡ [] → TellsStated (part_places o fd.branches (stated_parts fd.row)) f → Refused
-      stated_here g k = whole_refuses (stated_by_first g (subst (λ (fd : Finding). TellsStated (part_places o fd.branches (stated_parts fd.row)) f) e k))
-
-    own_fine : finding_faults r d most fd ≡ [] → stated_parts fd.row ≡ [] → AreFine r d most n (node_with None ∷ [])
-    own_fine g u = record {
-      faultless = ap (λ (fd : Finding). by_rows (finding_faults r d most fd) ++ []) (sym e) ∙ ap (λ cs. by_rows cs ++ []) g;
-      unstated = ap (λ (fd : Finding). part_places o fd.branches (stated_parts fd.row) ++ []) (sym e) ∙ ap (λ ps. part_places o fd.branches ps ++ []) u;
-    }
-
-    module _ (g : finding_faults r d most fd ≡ []) (u : stated_parts fd.row ≡ []) where
+    module _ (g : finding_faults r d most fd ≡ []) where
       pub branches_here : (f : FaultD) (old new : ℕ) → Refuses r d most n old new cut_below f → Refuses r d most n old new (tree_at r d most (suc n) o s) f
       branches_here f old new k =
-          whole_refuses f old new (refuses_second r d most n f old new (node_with None ∷ []) (cut_below ++ parts_below) (own_fine g u)
+          whole_refuses f old new (refuses_second r d most n f old new (node_with None ∷ []) (cut_below ++ parts_below) (own_fine g)
           (refuses_first r d most n f old new cut_below parts_below k))
 
       module _ (b : cut_below ≡ []) where
@@ -131,7 +116,7 @@ module _ (r : Relations) (d : Document) (most n : ℕ) (o : Spot) (s : Schema) w
         pub parts_here : (f : FaultD) (old new : ℕ) → RefusesOf r d most n o.path old new parts_below f → Refuses r d most n old new (tree_at r d most (suc n) o s) f
         parts_here f old new (at_schema k) = whole_refuses f old new (own_fails f old new k)
         parts_here f old new (at_parts k) =
-            whole_refuses f old new (refuses_second r d most n f old new (node_with None ∷ []) (cut_below ++ parts_below) (own_fine g u)
+            whole_refuses f old new (refuses_second r d most n f old new (node_with None ∷ []) (cut_below ++ parts_below) (own_fine g)
             (refuses_second r d most n f old new cut_below parts_below cut_fine k))
 
         -- ---- told
@@ -140,13 +125,13 @@ module _ (r : Relations) (d : Document) (most n : ℕ) (o : Spot) (s : Schema) w
         own_notes fd = map (placed_note o fd.branches) fd.notes
 
         told_parts : (j k l : KeptD) (x : Entry) → k.notes ≡ j.notes ++ own_notes fd → k.values ≡ j.values → k.merges ≡ j.merges → x ≡ entry_at r d most (suc n) o s
-            → IsToldOf r d most n o.path fd.row x parts_below k l → IsTold r d most n (node_with None ∷ ([] ++ parts_below)) j l
+            → IsToldOf r d most n o.path s fd.row x parts_below k l → IsTold r d most n (node_with None ∷ ([] ++ parts_below)) j l
         told_parts j k l x a v m h t = record {
-          fine = both_fine r d most n (node_with None ∷ []) parts_below (own_fine g u) t.fine;
+          fine = both_fine r d most n (node_with None ∷ []) parts_below (own_fine g) t.fine;
           notes = t.notes ∙ ap (λ ns. ns ++ notes_in r d most n parts_below) a ∙ append_assoc j.notes (own_notes fd) (notes_in r d most n parts_below)
               ∙ ap (λ (fd : Finding). j.notes ++ (own_notes fd ++ notes_in r d most n parts_below)) e ∙ noted;
-          values = t.values ∙ ap (λ v. with_unread (unread_of r v.known o.path fd.row x ++ unread_listed r v.known d parts_below) v) v
-              ∙ (λ i. with_unread (unread_of r j.values.known o.path (e i).row (h i) ++ unread_listed r j.values.known d parts_below) j.values);
+          values = t.values ∙ ap (λ v. with_unread (unread_of r v.known o.path s fd.row x ++ unread_in r v.known d parts_below) v) v
+              ∙ (λ i. with_unread (unread_of r j.values.known o.path s (e i).row (h i) ++ unread_in r j.values.known d parts_below) j.values);
           merges = λ rest q. t.merges rest (m ∙ q);
         }
           where
@@ -154,7 +139,7 @@ module _ (r : Relations) (d : Document) (most n : ℕ) (o : Spot) (s : Schema) w
             noted = ap (λ ns. j.notes ++ (ns ++ notes_in r d most n parts_below)) (sym (append-nil (own_notes (finding_of r d s))))
 
         pub told_here : (j k l : KeptD) (x : Entry) → k.notes ≡ j.notes ++ own_notes fd → k.values ≡ j.values → k.merges ≡ j.merges → x ≡ entry_at r d most (suc n) o s
-            → IsToldOf r d most n o.path fd.row x parts_below k l → IsTold r d most n (tree_at r d most (suc n) o s) j l
+            → IsToldOf r d most n o.path s fd.row x parts_below k l → IsTold r d most n (tree_at r d most (suc n) o s) j l
         told_here j k l x a v m h t =
             subst (λ (ts : List Node). IsTold r d most n ts j l) (sym plain_is)
             (subst (λ (ts : List Node). IsTold r d most n (node_with None ∷ (ts ++ parts_below)) j l) (sym b) (told_parts j k l x a v m h t))

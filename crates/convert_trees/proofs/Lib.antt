@@ -1,8 +1,9 @@
 pub mod Branches
 pub mod Causes
-pub mod Defaults
 pub mod Documents
 pub mod Ends
+pub mod Fitting
+pub mod Held
 pub mod Here
 pub mod Merged
 pub mod Odd

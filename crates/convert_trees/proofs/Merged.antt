@@ -1,13 +1,10 @@
 -- One schema whose row merges, by what was gathered of its merge.
 use Rattle.std.proofs.Common.{◌≡◌, ℕ, suc, List, [], ◌∷◌, ◌++◌, true, false, Option, Some, None, is_some, map, refl, sym, ap, subst, ◌∙◌, append_assoc, true≢false}
-use Rattle.schema_defs.specs.Location.{Location}
 use Rattle.schema_defs.specs.Texts.{Relations}
 use Rattle.schema_defs.specs.Schema.{Plain, Schema, boolean, object, Document}
 use Rattle.entry_defs.specs.Entry.{Entry}
-use Rattle.entry_defs.specs.Table.{Table}
-use Rattle.convert_defs.specs.Row.{Row, Part, leaf_row, as_it_is_row, option_row, ruled_row, vec_row, set_row, array_row, tuple_row, map_row, pattern_map_row, struct_row, enum_row, merged_row, refused_row, Finding}
+use Rattle.convert_defs.specs.Row.{Row, Part, Finding}
 use Rattle.convert_defs.specs.Table.{finding_of, row_of}
-use Rattle.convert_defs.specs.Values.{inner_of, listed_in}
 use Rattle.merge_defs.specs.Outcome.{Note, Fault, Outcome, fault, never, answer}
 use Rattle.merge_walks.specs.Carried.{has_more_steps}
 use Rattle.convert_walks.specs.Merging.{merged_at}
@@ -20,36 +17,11 @@ use Rattle.merged_rows.specs.Told.{TellsMerge}
 use Rattle.row_merges.specs.Merges.{MergeD, refused, stands, unhanded, merge_of_row, merges_in}
 use Rattle.schema_tree.specs.Fault.{FaultD}
 use Rattle.convert_trees.specs.Keeping.{KeptD, with_unread}
-use Rattle.convert_trees.specs.Unread.{unread_by, unread_of, unread_listed}
+use Rattle.convert_trees.specs.Unread.{unread_of, unread_in}
 use Rattle.convert_trees.specs.Told as told
-use Rattle.convert_trees.specs.Told.{AreFine, IsTold, Refuses, by_none, by_fault, Begins, begins}
-use Rattle.convert_trees.proofs.Telling.{both_fine, refuses_second, tells_head}
+use Rattle.convert_trees.specs.Told.{AreFine, IsTold, IsToldOf, Refuses, by_none, by_fault, RefusesOf, at_schema, at_parts, Begins, begins}
+use Rattle.convert_trees.proofs.Telling.{both_fine, none_of_first, refuses_second, tells_head}
 use Rattle.convert_trees.proofs.Here.{node_with, trees, shallow}
-
--- ---- a row that merges lists no values
-
-lists_none : (w : Row) (ps : List Part) → if_merged w ≡ Some ps → listed_in w ≡ []
-lists_none (merged_row qs) ps e = refl
-lists_none (ruled_row p rule) ps e = absurd (cc)
-lists_none (leaf_row x) ps e = refl
-lists_none (as_it_is_row p) ps e = refl
-lists_none (option_row p) ps e = refl
-lists_none (vec_row p) ps e = refl
-lists_none (set_row p) ps e = refl
-lists_none (array_row p n) ps e = refl
-lists_none (tuple_row qs n p) ps e = refl
-lists_none (map_row k p) ps e = refl
-lists_none (pattern_map_row qs p) ps e = refl
-lists_none (struct_row closed fs o) ps e = refl
-lists_none (enum_row tag closing ws) ps e = refl
-lists_none (refused_row c) ps e = refl
-
-none_unread : (r : Relations) (k : Option Table) (e : Entry) → unread_by r k e [] ≡ []
-none_unread r None e = refl
-none_unread r (Some t) e = refl
-
-none_of_row : (r : Relations) (k : Option Table) (l : Location) (w : Row) (e : Entry) → listed_in w ≡ [] → unread_of r k l w e ≡ []
-none_of_row r k l w e h = ap (λ vs. map (λ v. (l, v)) (unread_by r k (inner_of e) vs)) h ∙ ap (λ vs. map (λ v. (l, v)) vs) (none_unread r k (inner_of e))
 
 -- ---- what stands in place of the schema, by what was kept of it
 
@@ -93,7 +65,6 @@ module _ (r : Relations) (d : Document) (most n : ℕ) (o : Spot) (s : Schema) w
     pub outcome : Outcome Schema
     pub tree_is : tree_at r d most (suc n) o s ≡ node_with r d most n o s (Some outcome) ∷ standing_tree r d most (trees r d most n o s) (instead o s outcome)
     pub entry_is : entry_at r d most (suc n) o s ≡ standing_entry r d most n (λ o s. entry_at r d most n o s) (instead o s outcome)
-    pub unlisted : listed_in (row_of r d s) ≡ []
 
   merging_by : (m : Option (List Part)) → if_merged (row_of r d s) ≡ m → is_some m ≡ true → has_more_steps most o.walk ≡ false → Merging
   merging_by None e k w = absurd (true≢false (sym k))
@@ -102,7 +73,6 @@ module _ (r : Relations) (d : Document) (most n : ℕ) (o : Spot) (s : Schema) w
     tree_is = shallow r d most n o s w
         ∙ ap (λ m. node_with r d most n o s (merge_of r d most n o s m) ∷ below r d most n (trees r d most n o s) o s (finding_of r d s).branches (row_of r d s) m) e;
     entry_is = ap (λ m. row_entry r d most n (λ o s. entry_at r d most n o s) o s (finding_of r d s).branches (row_of r d s) m) e;
-    unlisted = lists_none (row_of r d s) ps e;
   }
 
   pub merging : (fd : Finding) → fd ≡ finding_of r d s → has_more_steps most o.walk ≡ false → is_some (if_merged fd.row) ≡ true → Merging
@@ -155,13 +125,15 @@ module _ (r : Relations) (d : Document) (most n : ℕ) (o : Spot) (s : Schema) w
       own = node_with r d most n o s (Some g.outcome) ∷ []
 
       own_fine : AreFine r d most n own
-      own_fine = record { faultless = ap (λ fs. fs ++ []) is_there.faultless; unstated = refl }
+      own_fine = record { faultless = ap (λ fs. fs ++ []) is_there.faultless }
 
       pub standing_begins : (left : List MergeD) → Begins left (merges_in inner) → Begins left (merges_in standing_nodes)
       standing_begins left b = subst (λ (ts : List Node). Begins left (merges_in ts)) inner_is b
 
-      pub standing_refuses : (f : FaultD) (a b : ℕ) → Refuses r d most n a b standing_nodes f → Refuses r d most n a b (tree_at r d most (suc n) o s) f
-      standing_refuses f a b k =
+      -- no answer at the schema's own place, or what is told of what stands there
+      pub standing_refuses : (f : FaultD) (a b : ℕ) → RefusesOf r d most n o.path a b standing_nodes f → Refuses r d most n a b (tree_at r d most (suc n) o s) f
+      standing_refuses f a b (at_schema k) = subst (λ (ts : List Node). Refuses r d most n a b ts f) (sym g.tree_is) (by_none (none_of_first f a b own inner k))
+      standing_refuses f a b (at_parts k) =
           subst (λ (ts : List Node). Refuses r d most n a b ts f) (sym g.tree_is)
           (refuses_second r d most n f a b own inner own_fine (subst (λ (ts : List Node). Refuses r d most n a b ts f) (sym inner_is) k))
 
@@ -171,16 +143,16 @@ module _ (r : Relations) (d : Document) (most n : ℕ) (o : Spot) (s : Schema) w
       abbrev row_notes : List PlacedNote
       row_notes = map (placed_note o (finding_of r d s).branches) (finding_of r d s).notes
 
-      all_told : (j k l : KeptD) → k.notes ≡ (j.notes ++ row_notes) ++ map (merge_note o) ns → k.values ≡ j.values → j.merges ≡ stands ns (Some u) ∷ k.merges
-          → IsTold r d most n inner k l → IsTold r d most n (own ++ inner) j l
-      all_told j k l a v m t = record {
+      all_told : (w : Row) (x : Entry) (j k l : KeptD) → w ≡ row_of r d s → x ≡ entry_at r d most (suc n) o s → k.notes ≡ (j.notes ++ row_notes) ++ map (merge_note o) ns → k.values ≡ j.values
+          → j.merges ≡ stands ns (Some u) ∷ k.merges → IsToldOf r d most n o.path s w x inner k l → IsTold r d most n (own ++ inner) j l
+      all_told w x j k l e h a v m t = record {
         fine = both_fine r d most n own inner own_fine t.fine;
         notes = t.notes ∙ ap (λ ks. ks ++ notes_in r d most n inner) a
             ∙ ap (λ ks. ks ++ notes_in r d most n inner) (append_assoc j.notes row_notes (map (merge_note o) ns))
             ∙ ap (λ ks. (j.notes ++ (row_notes ++ ks)) ++ notes_in r d most n inner) (sym is_there.notes_are)
             ∙ append_assoc j.notes (row_notes ++ outcome_notes r d most n o (Some g.outcome)) (notes_in r d most n inner);
-        values = t.values ∙ ap (λ v. with_unread (unread_listed r v.known d inner) v) v
-            ∙ ap (λ us. with_unread (us ++ unread_listed r j.values.known d inner) j.values) (sym (none_of_row r j.values.known o.path (row_of r d s) (entry_at r d most (suc n) o s) g.unlisted));
+        values = t.values ∙ ap (λ v. with_unread (unread_of r v.known o.path s w x ++ unread_in r v.known d inner) v) v
+            ∙ (λ i. with_unread (unread_of r j.values.known o.path s (e i) (h i) ++ unread_in r j.values.known d inner) j.values);
         merges = λ rest q. t.merges rest (others rest q);
       }
         where
@@ -189,9 +161,9 @@ module _ (r : Relations) (d : Document) (most n : ℕ) (o : Spot) (s : Schema) w
               let z : stands ns (Some u) ∷ k.merges ≡ merge_of_row o s g.outcome ∷ (merges_in inner ++ rest) = sym m ∙ q in
               cc
 
-      pub standing_told : (fd : Finding) (j k l : KeptD) → fd ≡ finding_of r d s → k.notes ≡ (j.notes ++ map (placed_note o fd.branches) fd.notes) ++ map (merge_note o) ns → k.values ≡ j.values
-          → j.merges ≡ stands ns (Some u) ∷ k.merges → IsTold r d most n standing_nodes k l → IsTold r d most n (tree_at r d most (suc n) o s) j l
-      standing_told fd j k l e a v m t =
+      pub standing_told : (fd : Finding) (x : Entry) (j k l : KeptD) → fd ≡ finding_of r d s → x ≡ entry_at r d most (suc n) o s → k.notes ≡ (j.notes ++ map (placed_note o fd.branches) fd.notes) ++ map (merge_note o) ns → k.values ≡ j.values
+          → j.merges ≡ stands ns (Some u) ∷ k.merges → IsToldOf r d most n o.path s fd.row x standing_nodes k l → IsTold r d most n (tree_at r d most (suc n) o s) j l
+      standing_told fd x j k l e h a v m t =
           subst (λ (ts : List Node). IsTold r d most n ts j l) (sym g.tree_is)
-          (all_told j k l (a ∙ ap (λ (fd : Finding). (j.notes ++ map (placed_note o fd.branches) fd.notes) ++ map (merge_note o) ns) e) v m
-          (subst (λ (ts : List Node). IsTold r d most n ts k l) (sym inner_is) t))
+          (all_told fd.row x j k l (ap (λ (fd : Finding). fd.row) e) h (a ∙ ap (λ (fd : Finding). (j.notes ++ map (placed_note o fd.branches) fd.notes) ++ map (merge_note o) ns) e) v m
+          (subst (λ (ts : List Node). IsToldOf r d most n o.path s fd.row x ts k l) (sym inner_is) t))

@@ -13,7 +13,7 @@ use Rattle.row_merges.specs.declared.listed.Listed.{Listed}
 use Rattle.row_merges.specs.Listed.{listed_view}
 use Rattle.convert_trees.specs.Keeping.{KeptD}
 use Rattle.convert_trees.specs.Told.{IsTold, Refuses, Begins}
-use Rattle.convert_trees.proofs.Defaults.{drop_past}
+use Rattle.merged_rows.proofs.Trails.{drop_past}
 use Rattle.convert_trees.proofs.Telling.{Passed, passed_on, passed_end, passed_refuses, passed_begins, refuses_from}
 use Rattle.attr_parts.proofs.Added.{mapped_drop}
 

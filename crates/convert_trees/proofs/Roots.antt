@@ -1,5 +1,5 @@
 -- A document: its definitions, and its root behind them.
-use Rattle.std.specs.Prelude.{Option, Some, None, Contains}
+use Rattle.std.specs.Prelude.{Option, Some, None, Contains, filter, not}
 use Rattle.json_value.specs.Value.{Value}
 use Rattle.std.proofs.Common.{◌≡◌, ℕ, zero, suc, ◌≤◌, List, [], ◌∷◌, ◌++◌, Bool, true, false, map, refl, sym, ap, subst, ◌∙◌, append-nil}
 use Rattle.std.proofs.lemmas.List.Elements.{Contains-append_right}
@@ -8,6 +8,7 @@ use Rattle.schema_defs.specs.Texts.{Relations}
 use Rattle.schema_defs.specs.Schema.{Schema, Document}
 use Rattle.entry_defs.specs.Entry.{Entry}
 use Rattle.entry_defs.specs.Table.{Table, TargetEntry}
+use Rattle.convert_defs.specs.Owners.{default_of}
 use Rattle.convert_defs.specs.Row.{Row}
 use Rattle.convert_defs.specs.Table.{finding_of, row_of}
 use Rattle.convert_defs.specs.Values.{inner_of, listed_in}
@@ -20,9 +21,8 @@ use Rattle.convert_walks.specs.Told.{faults_of, notes_in}
 use Rattle.row_merges.specs.Merges.{MergeD, merges_in}
 use Rattle.schema_tree.specs.Fault.{FaultD}
 use Rattle.convert_trees.specs.Tables.{root_targets_of, root_use_of}
-use Rattle.convert_trees.specs.Unread.{At, first_kept, unread_by, unread_in_document, unread_listed, unread_of}
+use Rattle.convert_trees.specs.Unread.{At, first_kept, is_given, stated_default, unread_by, unread_in_document, unread_in, unread_of}
 use Rattle.convert_trees.specs.Keeping.{KeptD, ValuesD, with_unread}
-use Rattle.stated_walks.specs.Stated.{stated_in_document}
 use Rattle.convert_trees.specs.Told.{places_of_nodes, IsTold, Refuses, Begins, begins}
 use Rattle.convert_trees.proofs.Ends.{first_place}
 use Rattle.convert_trees.proofs.Here.{trees, shallow, deep}
@@ -83,24 +83,21 @@ module _ (r : Relations) (d : Document) (most n : ℕ) where
   pub is_faultless : (j l : KeptD) → IsTold r d most n (document_tree r d most n) j l → faults_of r d most n ≡ []
   is_faultless j l t = t.fine.faultless
 
-  pub is_unstated : (j l : KeptD) → IsTold r d most n (document_tree r d most n) j l → stated_in_document r d most n ≡ []
-  is_unstated j l t = t.fine.unstated
-
   pub all_notes : (j l : KeptD) → j.notes ≡ [] → IsTold r d most n (document_tree r d most n) j l → l.notes ≡ notes_in r d most n (document_tree r d most n)
   all_notes j l e t = t.notes ∙ ap (λ ns. ns ++ notes_in r d most n (document_tree r d most n)) e
 
-  -- what is kept of listed values, where nothing was kept before
+  -- what is kept of stated values, where nothing was kept before
   pub all_values : (k : Option Table) (j l : KeptD) → j.values ≡ record { known = k; unread = None } → IsTold r d most n (document_tree r d most n) j l
-      → l.values.unread ≡ first_kept None (unread_listed r k d (document_tree r d most n))
-  all_values k j l e t = ap (λ (v : ValuesD). v.unread) (t.values ∙ ap (λ v. with_unread (unread_listed r v.known d (document_tree r d most n)) v) e)
+      → l.values.unread ≡ first_kept None (unread_in r k d (document_tree r d most n))
+  all_values k j l e t = ap (λ (v : ValuesD). v.unread) (t.values ∙ ap (λ v. with_unread (unread_in r v.known d (document_tree r d most n)) v) e)
 
-  -- the first of all, by the table that conversion gives, once it is known which is the first that is listed
+  -- the first of all, by the table that conversion gives, once it is known which is the first that is stated
   pub unread_whole : (r' : Relations) (t : Table) (listed o : Option At) → r' ≡ r → t ≡ table_of r d most n
-      → (listed ≡ first_kept None (unread_listed r' None d (document_tree r' d most n)) → o ≡ first_kept None (unread_listed r' (Some t) d (document_tree r' d most n)))
-      → listed ≡ first_kept None (unread_listed r None d (document_tree r d most n)) → o ≡ first_kept None (unread_in_document r d most n)
+      → (listed ≡ first_kept None (unread_in r' None d (document_tree r' d most n)) → o ≡ first_kept None (unread_in r' (Some t) d (document_tree r' d most n)))
+      → listed ≡ first_kept None (unread_in r None d (document_tree r d most n)) → o ≡ first_kept None (unread_in_document r d most n)
   unread_whole r' t listed o e a f h =
-      f (h ∙ ap (λ r. first_kept None (unread_listed r None d (document_tree r d most n))) (sym e))
-      ∙ (λ i. first_kept None (unread_listed (e i) (Some (a i)) d (document_tree (e i) d most n)))
+      f (h ∙ ap (λ r. first_kept None (unread_in r None d (document_tree r d most n))) (sym e))
+      ∙ (λ i. first_kept None (unread_in (e i) (Some (a i)) d (document_tree (e i) d most n)))
 
   -- a refusal of a later conversion is one of the first
   pub refuses_later : (f : FaultD) (r' : Relations) (first old new : ℕ) → r' ≡ r → first ≤ old → Refuses r' d most n old new (document_tree r' d most n) f → Refuses r d most n first new (document_tree r d most n) f
@@ -156,29 +153,31 @@ module _ (r : Relations) (d : Document) (most n : ℕ) where
       w ∙ (λ i. record { targets = a i ++ root_targets_of (refers_to_root d) (root_name d.root) (at i); trees = root_use_of (refers_to_root d) (at i) ∷ [] })
       ∙ (λ i. record { targets = map (definition_target r d most n) d.definitions ++ same_targets (refers_to_root d) i; trees = same_use (refers_to_root d) i ∷ [] })
 
--- ---- where no value is listed, none is unread
+-- ---- where no value is stated, none is unread
 
 abbrev placed : Location → List Value → List At
 placed l vs = map (λ v. (l, v)) vs
 
 module _ (r : Relations) (d : Document) (t : Table) where
-  none_of : (l : Location) (w : Row) (e : Entry) → unread_of r None l w e ≡ [] → unread_of r (Some t) l w e ≡ []
-  none_of l w e h = by (listed_in w) h
+  none_of : (l : Location) (s : Schema) (w : Row) (e : Entry) → unread_of r None l s w e ≡ [] → unread_of r (Some t) l s w e ≡ []
+  none_of l s w e h = by (listed_in w) (default_of s) h
     where
-      by : (vs : List Value) → placed l vs ≡ [] → placed l (unread_by r (Some t) (inner_of e) vs) ≡ []
-      by [] h = refl
-      by (v ∷ vs) h = absurd (cc)
+      by : (vs : List Value) (o : Option Value) → placed l (vs ++ filter (λ v. not (is_given r None s w e v)) (stated_default o)) ≡ []
+          → placed l (unread_by r (Some t) (inner_of e) vs ++ filter (λ v. not (is_given r (Some t) s w e v)) (stated_default o)) ≡ []
+      by [] None h = refl
+      by [] (Some v) h = absurd (cc)
+      by (v ∷ vs) o h = absurd (cc)
 
-  none_in : (ts : List Node) → unread_listed r None d ts ≡ [] → unread_listed r (Some t) d ts ≡ []
+  none_in : (ts : List Node) → unread_in r None d ts ≡ [] → unread_in r (Some t) d ts ≡ []
   none_in [] h = refl
   none_in (n ∷ ns) h =
-      let both = no_parts (unread_of r None n.spot.path (row_of r d n.schema) n.entry) (unread_listed r None d ns) h in
-      let one = none_of n.spot.path (row_of r d n.schema) n.entry both.0 in
+      let both = no_parts (unread_of r None n.spot.path n.schema (row_of r d n.schema) n.entry) (unread_in r None d ns) h in
+      let one = none_of n.spot.path n.schema (row_of r d n.schema) n.entry both.0 in
       let rest = none_in ns both.1 in
       λ i. one i ++ rest i
 
-  pub none_listed : (ts : List Node) → None ≡ first_kept None (unread_listed r None d ts) → None ≡ first_kept None (unread_listed r (Some t) d ts)
-  none_listed ts h = sym (ap (first_kept None) (none_in ts (nothing (unread_listed r None d ts) h)))
+  pub none_listed : (ts : List Node) → None ≡ first_kept None (unread_in r None d ts) → None ≡ first_kept None (unread_in r (Some t) d ts)
+  none_listed ts h = sym (ap (first_kept None) (none_in ts (nothing (unread_in r None d ts) h)))
 
 -- ---- tables by their parts
 

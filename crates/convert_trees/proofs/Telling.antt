@@ -12,8 +12,7 @@ use Rattle.convert_walks.specs.Spot.{Spot}
 use Rattle.convert_walks.specs.Tree.{Node, cut, too_many_steps}
 use Rattle.convert_walks.specs.Told.{notes_in, state_notes, faults_in, state_faults, too_deep}
 use Rattle.row_merges.specs.Merges.{MergeD, merges_in, state_merges}
-use Rattle.convert_trees.specs.Unread.{At, unread_of, unread_listed, first_kept, first_before_if}
-use Rattle.stated_walks.specs.Stated.{stated_at, stated_in}
+use Rattle.convert_trees.specs.Unread.{At, unread_of, unread_in, first_kept, first_before_if}
 use Rattle.convert_trees.specs.Keeping.{KeptD, ValuesD, with_unread}
 use Rattle.convert_trees.specs.Told as told
 use Rattle.convert_trees.specs.Told.{places_of_nodes, NoAnswer, AreFine, IsTold, TellsOf, Tells, Refuses, by_none, by_fault, Begins, begins}
@@ -90,27 +89,20 @@ module _ (r : Relations) (d : Document) (most n : ℕ) where
       ap (λ ns. state_notes r d most n a.spot a.schema a.state ++ ns) (notes_of_both xs bs)
       ∙ sym (append_assoc (state_notes r d most n a.spot a.schema a.state) (notes_in r d most n xs) (notes_in r d most n bs))
 
-  unread_of_both : (k : Option Table) (xs bs : List Node) → unread_listed r k d (xs ++ bs) ≡ unread_listed r k d xs ++ unread_listed r k d bs
+  unread_of_both : (k : Option Table) (xs bs : List Node) → unread_in r k d (xs ++ bs) ≡ unread_in r k d xs ++ unread_in r k d bs
   unread_of_both k [] bs = refl
   unread_of_both k (a ∷ xs) bs =
-      ap (λ us. unread_of r k a.spot.path (row_of r d a.schema) a.entry ++ us) (unread_of_both k xs bs)
-      ∙ sym (append_assoc (unread_of r k a.spot.path (row_of r d a.schema) a.entry) (unread_listed r k d xs) (unread_listed r k d bs))
-
-  stated_of_both : (xs bs : List Node) → stated_in r d (xs ++ bs) ≡ stated_in r d xs ++ stated_in r d bs
-  stated_of_both [] bs = refl
-  stated_of_both (a ∷ xs) bs =
-      ap (λ ls. stated_at r d a.spot a.schema a.state ++ ls) (stated_of_both xs bs)
-      ∙ sym (append_assoc (stated_at r d a.spot a.schema a.state) (stated_in r d xs) (stated_in r d bs))
+      ap (λ us. unread_of r k a.spot.path a.schema (row_of r d a.schema) a.entry ++ us) (unread_of_both k xs bs)
+      ∙ sym (append_assoc (unread_of r k a.spot.path a.schema (row_of r d a.schema) a.entry) (unread_in r k d xs) (unread_in r k d bs))
 
   -- ---- nothing to refuse
 
   pub none_fine : AreFine r d most n []
-  none_fine = record { faultless = refl; unstated = refl }
+  none_fine = record { faultless = refl }
 
   pub both_fine : (xs bs : List Node) → AreFine r d most n xs → AreFine r d most n bs → AreFine r d most n (xs ++ bs)
   both_fine xs bs x y = record {
     faultless = faults_of_both xs bs ∙ ap (λ cs. cs ++ faults_in r d most n bs) x.faultless ∙ y.faultless;
-    unstated = stated_of_both xs bs ∙ ap (λ ls. ls ++ stated_in r d bs) x.unstated ∙ y.unstated;
   }
 
   -- ---- told
@@ -123,7 +115,7 @@ module _ (r : Relations) (d : Document) (most n : ℕ) where
     fine = both_fine xs bs x.fine y.fine;
     notes = y.notes ∙ ap (λ ns. ns ++ notes_in r d most n bs) x.notes ∙ append_assoc k.notes (notes_in r d most n xs) (notes_in r d most n bs)
         ∙ ap (λ ns. k.notes ++ ns) (sym (notes_of_both xs bs));
-    values = y.values ∙ ap (λ v. with_unread (unread_listed r v.known d bs) v) x.values ∙ with_both k.values (unread_listed r k.values.known d xs) (unread_listed r k.values.known d bs)
+    values = y.values ∙ ap (λ v. with_unread (unread_in r v.known d bs) v) x.values ∙ with_both k.values (unread_in r k.values.known d xs) (unread_in r k.values.known d bs)
         ∙ ap (λ us. with_unread us k.values) (sym (unread_of_both k.values.known xs bs));
     merges = λ rest e. y.merges rest (x.merges (merges_in bs ++ rest) (parted xs bs k.merges rest e));
   }
@@ -223,14 +215,13 @@ module _ (r : Relations) (d : Document) (most m n : ℕ) where
   same_notes (t ∷ ts) = ap (λ ns. state_notes r d most n t.spot t.schema t.state ++ ns) (same_notes ts)
 
   fine_by : (ts : List Node) → AreFine r d most m ts → AreFine r d most n ts
-  fine_by ts a = record { faultless = sym (same_faults ts) ∙ a.faultless; unstated = a.unstated }
+  fine_by ts a = record { faultless = sym (same_faults ts) ∙ a.faultless }
 
   pub told_by_levels : (ts : List Node) (j k : KeptD) → IsTold r d most m ts j k → IsTold r d most n ts j k
   told_by_levels ts j k t = record { fine = fine_by ts t.fine; notes = t.notes ∙ ap (λ ns. j.notes ++ ns) (same_notes ts); values = t.values; merges = t.merges }
 
   tells_of_by : (t : Node) (f : FaultD) → TellsOf r d most m t f → TellsOf r d most n t f
   tells_of_by t f (told.of_reason l why more e h) = told.of_reason l why more e h
-  tells_of_by t f (told.of_default l more e g h) = told.of_default l more e g h
 
   pub refuses_by_levels : (f : FaultD) (old new : ℕ) (ts : List Node) → Refuses r d most m old new ts f → Refuses r d most n old new ts f
   refuses_by_levels f old new ts (by_none h) = by_none h

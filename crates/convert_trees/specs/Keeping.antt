@@ -12,12 +12,12 @@ use Rattle.convert_trees.specs.declared.keeping.Values.{Values}
 use Rattle.convert_trees.specs.declared.keeping.Merges.{Merges}
 use Rattle.convert_trees.specs.declared.keeping.Kept.{Kept}
 
--- the table by which listed values are asked, where it is known, and the first of them that isn't read
+-- the table by which stated values are asked, where it is known, and the first of them that isn't read
 pub record ValuesD : Type 0 where
   pub known : Option Table
   pub unread : Option At
 
--- the notes, what is kept of listed values, and the merges that are left
+-- the notes, what is kept of stated values, and the merges that are left
 pub record KeptD : Type 0 where
   pub notes : List Note
   pub values : ValuesD

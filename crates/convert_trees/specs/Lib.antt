@@ -3,3 +3,4 @@ pub mod Told
 pub mod Unread
 pub mod Keeping
 pub use Rattle.row_merges.specs.Merges
+pub mod UnreadExamples

@@ -9,21 +9,17 @@ use Rattle.entry_defs.specs.Entry.{Entry}
 use Rattle.convert_defs.specs.Row as row
 use Rattle.convert_defs.specs.Row.{Row, leaf_row, as_it_is_row, option_row, ruled_row, vec_row, set_row, array_row, tuple_row, map_row, pattern_map_row, struct_row, enum_row, merged_row, refused_row, Part, Finding, plainly, Cause}
 use Rattle.convert_defs.specs.Table.{finding_of}
-use Rattle.convert_defs.specs.Faults.{finding_faults}
-use Rattle.convert_walks.specs.Spot.{Spot, Branches}
-use Rattle.convert_walks.specs.Tree.{Node, document_tree}
+use Rattle.convert_walks.specs.Tree.{Node}
 use Rattle.convert_walks.specs.Told.{Reason, by_row, by_merge, too_deep, by_levels, notes_in, state_faults, faults_in}
 use Rattle.row_types.specs.declared.finding.Cause.{Cause as CodeCause}
 use Rattle.row_types.specs.View.{cause_view}
 use Rattle.schema_tree.specs.declared.fault.InvalidKind.TheVariants as invalid
-use Rattle.schema_tree.specs.declared.fault.UnsupportedKind.{UnsupportedKind}
 use Rattle.schema_tree.specs.declared.fault.UnsupportedKind.TheVariants as kind
 use Rattle.schema_tree.specs.Fault.{FaultD, memory, depth, places, bad_value, invalid_schema, unsupported, texts}
 use Rattle.merge_faults.specs.Faults.{unmerged_kind}
 use Rattle.row_merges.specs.Merges.{MergeD, merges_in}
-use Rattle.convert_trees.specs.Unread.{unread_of, unread_listed}
+use Rattle.convert_trees.specs.Unread.{unread_of, unread_in}
 use Rattle.convert_trees.specs.Keeping.{KeptD, with_unread}
-use Rattle.stated_walks.specs.Stated.{part_places, stated_at, stated_in}
 
 -- ---- the fault that is told for a cause
 
@@ -78,11 +74,6 @@ pub data RowRefuses (l : Location) (s : Schema) (w : Row) (told : FaultD) : Type
   without_memory : told ≡ memory → RowRefuses l s w told
   by_refusal : (c : CodeCause) → w ≡ refused_row (cause_view c) → told ≡ told_cause l s (plainly (refused_row (cause_view c))) (cause_view c) → RowRefuses l s w told
 
--- want of memory, or that the default of the first field that states one isn't checked yet
-pub data TellsStated (ls : List Location) (told : FaultD) : Type 0 where
-  out_of_memory : told ≡ memory → TellsStated ls told
-  by_default : (l : Location) (more : List Location) → ls ≡ l ∷ more → told ≡ unsupported l kind.NotYet → TellsStated ls told
-
 -- ---- nodes
 
 -- where they stand
@@ -90,23 +81,21 @@ abbrev pub places_of_nodes : List Node → List Location
 places_of_nodes ts = map (λ t. t.spot.path) ts
 
 module _ (r : Relations) (d : Document) (most n : ℕ) where
-  -- neither a fault nor a stated default
   pub record AreFine (ts : List Node) : Type 0 where
     pub faultless : faults_in r d most n ts ≡ []
-    pub unstated : stated_in r d ts ≡ []
 
-  -- nothing to refuse, the notes, the first listed value that isn't read, and the merges that are left
+  -- nothing to refuse, the notes, the first stated value that isn't read, and the merges that are left
   pub record IsTold (ts : List Node) (old new : KeptD) : Type 0 where
     pub fine : AreFine ts
     pub notes : new.notes ≡ old.notes ++ notes_in r d most n ts
-    pub values : new.values ≡ with_unread (unread_listed r old.values.known d ts) old.values
+    pub values : new.values ≡ with_unread (unread_in r old.values.known d ts) old.values
     pub merges : (rest : List MergeD) → old.merges ≡ merges_in ts ++ rest → new.merges ≡ rest
 
-  -- the same of the parts of a schema, with the values that its own row lists
-  pub record IsToldOf (l : Location) (w : Row) (e : Entry) (ts : List Node) (old new : KeptD) : Type 0 where
+  -- the same of the parts of a schema, with the values that it states itself
+  pub record IsToldOf (l : Location) (s : Schema) (w : Row) (e : Entry) (ts : List Node) (old new : KeptD) : Type 0 where
     pub fine : AreFine ts
     pub notes : new.notes ≡ old.notes ++ notes_in r d most n ts
-    pub values : new.values ≡ with_unread (unread_of r old.values.known l w e ++ unread_listed r old.values.known d ts) old.values
+    pub values : new.values ≡ with_unread (unread_of r old.values.known l s w e ++ unread_in r old.values.known d ts) old.values
     pub merges : (rest : List MergeD) → old.merges ≡ merges_in ts ++ rest → new.merges ≡ rest
 
   -- what is told of a reason at its place
@@ -116,12 +105,10 @@ module _ (r : Relations) (d : Document) (most n : ℕ) where
   told_reason s l (too_deep w) = depth w
   told_reason s l by_levels = memory
 
-  -- the first fault of a schema of the tree, or its first stated default, which isn't checked yet
+  -- the first fault of a schema of the tree
   pub data TellsOf (t : Node) (f : FaultD) : Type 0 where
     of_reason : (l : Location) (why : Reason) (more : List (Location × Reason)) → state_faults r d most n t.spot t.schema t.state ≡ (l, why) ∷ more
         → f ≡ told_reason t.schema l why → TellsOf t f
-    of_default : (l : Location) (more : List Location) → state_faults r d most n t.spot t.schema t.state ≡ [] → stated_at r d t.spot t.schema t.state ≡ l ∷ more
-        → f ≡ unsupported l kind.NotYet → TellsOf t f
 
   -- the first fault of all
   pub record Tells (ts : List Node) (f : FaultD) : Type 0 where

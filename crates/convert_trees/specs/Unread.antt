@@ -1,20 +1,34 @@
--- Listed values that what is converted doesn't read: those that Allow and Deny list, with the place of their schema.
-use Rattle.std.specs.Prelude.{ℕ, map, List, [], ◌∷◌, ◌++◌, Bool, true, false, Option, Some, None}
+-- Values that a schema states and that what it is converted to doesn't read, with its place: those that Allow and Deny list, and then its default, which has to lie within an integer's
+-- bounds too, and may not come round to itself by fields that it leaves out.
+use Rattle.std.specs.Prelude.{ℕ, map, List, [], ◌∷◌, ◌++◌, filter, not, ◌&&◌, Bool, true, false, Option, Some, None}
 use Rattle.json_value.specs.Value.{Value}
 use Rattle.schema_defs.specs.Location.{Location}
 use Rattle.schema_defs.specs.Texts.{Relations}
-use Rattle.schema_defs.specs.Schema.{Document}
+use Rattle.schema_defs.specs.Schema.{Schema, Document}
 use Rattle.entry_defs.specs.Entry.{Entry}
 use Rattle.entry_defs.specs.Table.{Table}
 use Rattle.model_defs.specs.Model.{RuleD}
+use Rattle.default_defs.specs.Found.{is_ended}
+use Rattle.default_defs.specs.Supplied.{supplied}
 use Rattle.scalar_takes.specs.Unread.{unread}
+use Rattle.convert_defs.specs.Owners.{default_of}
 use Rattle.convert_defs.specs.Row.{Row, leaf_row, as_it_is_row, option_row, ruled_row, vec_row, set_row, array_row, tuple_row, map_row, pattern_map_row, struct_row, enum_row, merged_row, refused_row}
 use Rattle.convert_defs.specs.Table.{row_of}
-use Rattle.convert_defs.specs.Values.{inner_of, listed_in}
+use Rattle.convert_defs.specs.Values.{fits_row, keeps_bounds, inner_of, listed_in}
 use Rattle.convert_walks.specs.Tree.{Node, document_tree, table_of}
 
 abbrev pub At : Type 0
 At = Location × Value
+
+-- where it is known whether the row is that of integers
+abbrev pub fits_by : Bool → Schema → Value → Bool
+fits_by true s v = keeps_bounds s v
+fits_by false s v = true
+
+-- a default, where there is one
+abbrev pub stated_default : Option Value → List Value
+stated_default None = []
+stated_default (Some v) = v ∷ []
 
 module _ (r : Relations) where
   -- those that the entry doesn't take by the table; all, where no table is known yet
@@ -22,21 +36,26 @@ module _ (r : Relations) where
   unread_by None e vs = vs
   unread_by (Some t) e vs = unread t r e vs
 
+  -- a default is read, within an integer's bounds, and what it leaves out comes to an end; none is, where no table is known yet
+  abbrev pub is_given : Option Table → Schema → Row → Entry → Value → Bool
+  is_given None s w e v = false
+  is_given (Some t) s w e v = is_ended (supplied t r e v) && fits_row w s v
+
   module _ (k : Option Table) where
     -- of one schema, by its row and its entry
-    abbrev pub unread_values : Row → Entry → List Value
-    unread_values w e = unread_by k (inner_of e) (listed_in w)
+    abbrev pub unread_values : Schema → Row → Entry → List Value
+    unread_values s w e = unread_by k (inner_of e) (listed_in w) ++ filter (λ v. not (is_given k s w e v)) (stated_default (default_of s))
 
-    abbrev pub unread_of : Location → Row → Entry → List At
-    unread_of l w e = map (λ v. (l, v)) (unread_values w e)
+    abbrev pub unread_of : Location → Schema → Row → Entry → List At
+    unread_of l s w e = map (λ v. (l, v)) (unread_values s w e)
 
-    abbrev pub unread_listed : Document → List Node → List At
-    unread_listed d [] = []
-    unread_listed d (t ∷ ts) = unread_of t.spot.path (row_of r d t.schema) t.entry ++ unread_listed d ts
+    abbrev pub unread_in : Document → List Node → List At
+    unread_in d [] = []
+    unread_in d (t ∷ ts) = unread_of t.spot.path t.schema (row_of r d t.schema) t.entry ++ unread_in d ts
 
   -- of the document, in the order of conversion
   abbrev pub unread_in_document : Document → ℕ → ℕ → List At
-  unread_in_document d most n = unread_listed (Some (table_of r d most n)) d (document_tree r d most n)
+  unread_in_document d most n = unread_in (Some (table_of r d most n)) d (document_tree r d most n)
 
 -- ---- the first of them
 

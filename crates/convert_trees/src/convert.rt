@@ -24,7 +24,6 @@ ghost use Rattle.row_merges.specs.Listed.{listed_view};
 ghost use Rattle.row_merges.specs.Merges.{end_view, merge_of_row, merge_view, merges_in};
 ghost use Rattle.row_trees.specs.Build.{built};
 ghost use Rattle.convert_trees.specs.Keeping.{kept_view, with_before_if};
-ghost use Rattle.stated_walks.specs.Stated.{stated_parts};
 ghost use Rattle.convert_trees.specs.Told.{Begins, IsTold, IsToldOf, NoAnswer, Refuses, RefusesOf};
 ghost use Rattle.convert_trees.specs.Unread.{unread_of};
 
@@ -35,7 +34,6 @@ use crate::names::named;
 use crate::notes::{keep_merge_notes, keep_notes};
 use crate::own::check_own;
 use crate::scope::Scope;
-use crate::stated::check_stated;
 use crate::unread::keep_unless;
 use entry_trees::Tree;
 use merge_parts::MergeFault;
@@ -126,7 +124,7 @@ fn tree_of_row<'d, T: Texts>(
     }
 }
 
-// The tree of a row; the first value that it lists and doesn't read is kept, before what its parts list, unless one was kept before them.
+// The tree of a row; the first value that its schema states and it doesn't read is kept, before what its parts state, unless one was kept before them.
 fn finished<'d, T: Texts>(
     scope: &Scope<'d, '_>,
     texts: &mut T,
@@ -134,19 +132,20 @@ fn finished<'d, T: Texts>(
     trail: &Vec<Steps<'d>>,
     had: bool,
     name: &'d str,
+    source: &Source<'d>,
     row: &Row<'d>,
     trees: VecDeque<Tree<'d>>,
 ) -> Result<Tree<'d>, Fault>
     ensures answer { IfOk result (λ t. tree_view t ≡ built name.now (row_view (T.relations texts.old) row.now) (map tree_view trees.entry.items)) }
     ensures notes { OnOk result ((kept_view kept.new).notes ≡ (kept_view kept.old).notes) }
     ensures merges { OnOk result ((kept_view kept.new).merges ≡ (kept_view kept.old).merges) }
-    ensures values { IfOk result (λ t. (kept_view kept.new).values ≡ with_before_if had (unread_of (T.relations texts.old) (kept_view kept.old).values.known (path_by scope.now.start.now trail.now.items) (row_view (T.relations texts.old) row.now) (tree_view t)) (kept_view kept.old).values) }
+    ensures values { IfOk result (λ t. (kept_view kept.new).values ≡ with_before_if had (unread_of (T.relations texts.old) (kept_view kept.old).values.known (path_by scope.now.start.now trail.now.items) (source_view source.now) (row_view (T.relations texts.old) row.now) (tree_view t)) (kept_view kept.old).values) }
     ensures refused { IfErr result (λ f. NoAnswer (path_by scope.now.start.now trail.now.items ∷ []) (T.faults texts.old) (T.faults texts.new) (fault_view f)) }
     ensures keeps { T.relations texts.new ≡ T.relations texts.old }
     ensures counts { T.faults texts.old ≤ T.faults texts.new }
 {
-    keep_unless(had, scope, texts, kept, trail, row, &trees)?;
     let tree = tree_of_row(scope, trail, name, row, trees, texts)?;
+    keep_unless(had, scope, texts, kept, trail, source, row, &tree)?;
     Ok(tree)
 }
 
@@ -160,7 +159,7 @@ fn push_tree<'d>(trees: &mut VecDeque<Tree<'d>>, tree: Tree<'d>) -> Result<(), F
     }
 }
 
-// A schema whose row doesn't merge is checked: it has no fault itself, states no default, and each branch is within the steps that are left.
+// A schema whose row doesn't merge is checked: it has no fault itself, and each branch is within the steps that are left.
 // The notes of its row are added.
 fn checked<'d, T: Texts>(
     scope: &Scope<'d, '_>,
@@ -171,7 +170,6 @@ fn checked<'d, T: Texts>(
     finding: &Finding<'d>,
 ) -> Result<(), Fault>
     ensures fine { OnOk result ((d : DocumentOf) → finding_faults (T.relations texts.old) d scope.now.depth (finding_view (T.relations texts.old) finding.now) ≡ []) }
-    ensures unstated { OnOk result (stated_parts (finding_view (T.relations texts.old) finding.now).row ≡ []) }
     ensures branches { OnOk result ((r : Relations) (d : DocumentOf) (h : Handed) → deep_branches r d scope.now.depth (spot_of scope.now.start.now trail.now.items h) (finding_view (T.relations texts.old) finding.now).branches ≡ []) }
     ensures notes { OnOk result ((h : Handed) → (kept_view kept.new).notes ≡ (kept_view kept.old).notes ++ map (placed_note (spot_of scope.now.start.now trail.now.items h) (finding_view (T.relations texts.old) finding.now).branches) (finding_view (T.relations texts.old) finding.now).notes) }
     ensures values { OnOk result ((kept_view kept.new).values ≡ (kept_view kept.old).values) }
@@ -181,7 +179,6 @@ fn checked<'d, T: Texts>(
     ensures counts { T.faults texts.old ≤ T.faults texts.new }
 {
     check_own(scope, trail, source, finding, texts)?;
-    check_stated(scope, trail, finding)?;
     keep_notes(scope, trail, finding, kept)?;
     check_branches(scope, trail, &finding.branches)?;
     Ok(())
@@ -295,7 +292,7 @@ fn convert_row<'d, T: Texts>(
 ) -> Result<Tree<'d>, Fault>
     requires { Begins (kept_view kept.old).merges (merges_in (parts_trees (T.relations texts.old) (document_seen scope.now.document.now) scope.now.depth (λ o s. tree_at (T.relations texts.old) (document_seen scope.now.document.now) scope.now.depth levels o s) (spot_of scope.now.start.now trail.now.items (option_map (λ n. n.now) handed)) (map branch_view finding.now.branches.items) (row_parts (row_view (T.relations texts.old) finding.now.row)))) }
     ensures entry { IfOk result (λ t. tree_view t ≡ built (named_by (option_map (λ n. n.now) handed.entry) (source_view source.now)) (row_view (T.relations texts.old) finding.now.row) (map (λ p. entry_at (T.relations texts.old) (document_seen scope.now.document.now) scope.now.depth levels (part_spot (spot_of scope.now.start.now trail.now.items (option_map (λ n. n.now) handed.entry)) (map branch_view finding.now.branches.items) p) (part_schema p)) (row_parts (row_view (T.relations texts.old) finding.now.row)))) }
-    ensures told { IfOk result (λ t. IsToldOf (T.relations texts.old) (document_seen scope.now.document.now) scope.now.depth levels (path_by scope.now.start.now trail.now.items) (row_view (T.relations texts.old) finding.now.row) (tree_view t) (parts_trees (T.relations texts.old) (document_seen scope.now.document.now) scope.now.depth (λ o s. tree_at (T.relations texts.old) (document_seen scope.now.document.now) scope.now.depth levels o s) (spot_of scope.now.start.now trail.now.items (option_map (λ n. n.now) handed.entry)) (map branch_view finding.now.branches.items) (row_parts (row_view (T.relations texts.old) finding.now.row))) (kept_view kept.old) (kept_view kept.new)) }
+    ensures told { IfOk result (λ t. IsToldOf (T.relations texts.old) (document_seen scope.now.document.now) scope.now.depth levels (path_by scope.now.start.now trail.now.items) (source_view source.now) (row_view (T.relations texts.old) finding.now.row) (tree_view t) (parts_trees (T.relations texts.old) (document_seen scope.now.document.now) scope.now.depth (λ o s. tree_at (T.relations texts.old) (document_seen scope.now.document.now) scope.now.depth levels o s) (spot_of scope.now.start.now trail.now.items (option_map (λ n. n.now) handed.entry)) (map branch_view finding.now.branches.items) (row_parts (row_view (T.relations texts.old) finding.now.row))) (kept_view kept.old) (kept_view kept.new)) }
     ensures refused { IfErr result (λ f. RefusesOf (T.relations texts.old) (document_seen scope.now.document.now) scope.now.depth levels (path_by scope.now.start.now trail.now.items) (T.faults texts.old) (T.faults texts.new) (parts_trees (T.relations texts.old) (document_seen scope.now.document.now) scope.now.depth (λ o s. tree_at (T.relations texts.old) (document_seen scope.now.document.now) scope.now.depth levels o s) (spot_of scope.now.start.now trail.now.items (option_map (λ n. n.now) handed.entry)) (map branch_view finding.now.branches.items) (row_parts (row_view (T.relations texts.old) finding.now.row))) (fault_view f)) }
     ensures keeps { T.relations texts.new ≡ T.relations texts.old }
     ensures counts { T.faults texts.old ≤ T.faults texts.new }
@@ -313,7 +310,17 @@ fn convert_row<'d, T: Texts>(
         &parts,
     )?;
     let name = named(handed, source);
-    let tree = finished(scope, texts, kept, trail, had, name, &finding.row, trees)?;
+    let tree = finished(
+        scope,
+        texts,
+        kept,
+        trail,
+        had,
+        name,
+        source,
+        &finding.row,
+        trees,
+    )?;
     Ok(tree)
 }
 
@@ -484,7 +491,17 @@ fn convert_merged<'d, T: Texts>(
             keep_notes(scope, trail, finding, kept)?;
             keep_merge_notes(scope, trail, &merge.notes, kept)?;
             let name = name_of_standing(handed, source, &standing.schema);
-            let tree = convert_standing(scope, texts, kept, levels, name, standing)?;
+            let tree = convert_in_place(
+                scope,
+                texts,
+                kept,
+                trail,
+                levels,
+                name,
+                source,
+                &finding.row,
+                standing,
+            )?;
             Ok(tree)
         }
         MergeEnd::Deep(_) => Err(refused_merge(scope, trail, &merge.end)),
@@ -504,6 +521,32 @@ fn name_of_standing<'d>(
         Schema::Bool(_) => Some(named(handed, source)),
         Schema::Object(_) => handed,
     }
+}
+
+// What stands in the place of a schema whose row merges; a default of that schema is kept before what it states itself.
+#[cycle(convert)]
+fn convert_in_place<'d, T: Texts>(
+    scope: &Scope<'d, '_>,
+    texts: &mut T,
+    kept: &mut Kept<'d, '_, '_>,
+    trail: &Vec<Steps<'d>>,
+    levels: u32,
+    handed: Option<&'d str>,
+    source: &Source<'d>,
+    row: &Row<'d>,
+    standing: &'d Standing,
+) -> Result<Tree<'d>, Fault>
+    requires { Begins (kept_view kept.old).merges (merges_in (tree_at (T.relations texts.old) (document_seen scope.now.document.now) scope.now.depth levels (spot_of standing.now.start [] (option_map (λ n. n.now) handed)) (schema_view standing.now.schema))) }
+    ensures entry { IfOk result (λ t. tree_view t ≡ entry_at (T.relations texts.old) (document_seen scope.now.document.now) scope.now.depth levels (spot_of standing.now.start [] (option_map (λ n. n.now) handed.entry)) (schema_view standing.now.schema)) }
+    ensures told { IfOk result (λ t. IsToldOf (T.relations texts.old) (document_seen scope.now.document.now) scope.now.depth levels (path_by scope.now.start.now trail.now.items) (source_view source.now) (row_view (T.relations texts.old) row.now) (tree_view t) (tree_at (T.relations texts.old) (document_seen scope.now.document.now) scope.now.depth levels (spot_of standing.now.start [] (option_map (λ n. n.now) handed.entry)) (schema_view standing.now.schema)) (kept_view kept.old) (kept_view kept.new)) }
+    ensures refused { IfErr result (λ f. RefusesOf (T.relations texts.old) (document_seen scope.now.document.now) scope.now.depth levels (path_by scope.now.start.now trail.now.items) (T.faults texts.old) (T.faults texts.new) (tree_at (T.relations texts.old) (document_seen scope.now.document.now) scope.now.depth levels (spot_of standing.now.start [] (option_map (λ n. n.now) handed.entry)) (schema_view standing.now.schema)) (fault_view f)) }
+    ensures keeps { T.relations texts.new ≡ T.relations texts.old }
+    ensures counts { T.faults texts.old ≤ T.faults texts.new }
+{
+    let had = kept.values.unread.is_some();
+    let tree = convert_standing(scope, texts, kept, levels, handed, standing)?;
+    keep_unless(had, scope, texts, kept, trail, source, row, &tree)?;
+    Ok(tree)
 }
 
 #[cycle(convert)]

@@ -5,15 +5,15 @@ use row_merges::Merge;
 use schema_types::Location;
 use serde_json::Value;
 
-/// A listed value that its schema's other keywords don't read, with the place of the schema.
+/// A listed value, or a default, that isn't read, with the place of the schema.
 #[derive(Drop)]
 pub struct Unread<'d> {
     pub path: Location,
     pub value: &'d Value,
 }
 
-/// The table by which listed values are asked, and the first of them that isn't read, in the order of conversion. Without a table it is the
-/// first that is listed.
+/// The table by which stated values are asked, and the first of them that isn't read, in the order of conversion. Without a table it is the
+/// first that is stated.
 #[derive(Drop)]
 pub struct Values<'d, 't, 'k> {
     pub known: Option<&'t TreeTable<'k>>,
@@ -27,7 +27,7 @@ pub struct Merges<'d> {
     pub next: usize,
 }
 
-/// The notes, what is kept of listed values, and the merges that are left.
+/// The notes, what is kept of stated values, and the merges that are left.
 #[derive(Drop)]
 pub struct Kept<'d, 't, 'k> {
     pub notes: Vec<PlacedNote>,

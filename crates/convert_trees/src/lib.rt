@@ -1,7 +1,9 @@
-//! A schema document converted: its table of trees with the notes and the first listed value that isn't read, or the first fault.
+//! A schema document converted: its table of trees with the notes and the first stated value that isn't read, or the first fault.
 #![tactic(auto)]
 
 mod convert;
+mod defaults;
+pub mod examples;
 mod faults;
 mod keeping;
 mod listed;
@@ -9,7 +11,6 @@ mod names;
 mod notes;
 mod own;
 mod scope;
-mod stated;
 mod table;
 mod unread;
 

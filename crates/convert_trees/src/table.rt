@@ -18,8 +18,7 @@ ghost use Rattle.convert_trees.specs.Keeping.{kept_view, unread_view};
 ghost use Rattle.row_merges.specs.Definitions.{is_under_defs};
 ghost use Rattle.convert_trees.specs.Tables.{root_targets_of, root_use_of};
 ghost use Rattle.convert_trees.specs.Told.{Begins, IsTold, Refuses};
-ghost use Rattle.convert_trees.specs.Unread.{first_kept, unread_in_document, unread_listed};
-ghost use Rattle.stated_walks.specs.Stated.{stated_in_document};
+ghost use Rattle.convert_trees.specs.Unread.{first_kept, unread_in, unread_in_document};
 
 use crate::convert::convert;
 use crate::keeping::{Kept, Merges, Unread, Values};
@@ -44,7 +43,7 @@ pub struct Converted<'d> {
 }
 
 /// The table of a document, where walks may have so many steps, and lists as many places. Refused is the first fault in the order of
-/// conversion, or the first optional property that states a default, which isn't checked yet.
+/// conversion.
 pub fn table_of<'d, T: Texts>(
     alloc: Global,
     document: &'d Document,
@@ -56,7 +55,6 @@ pub fn table_of<'d, T: Texts>(
     requires { merges_view merges.now.items ≡ merges_in (document_tree (T.relations texts.old) (document_seen document.now) depth levels) }
     ensures table { IfOk result (λ c. table_view c.table ≡ table_of_document (T.relations texts.old) (document_seen document.now) depth levels) }
     ensures faultless { OnOk result (faults_of (T.relations texts.old) (document_seen document.now) depth levels ≡ []) }
-    ensures stated { OnOk result (stated_in_document (T.relations texts.old) (document_seen document.now) depth levels ≡ []) }
     ensures notes { IfOk result (λ c. notes_view c.notes.items ≡ notes_in (T.relations texts.old) (document_seen document.now) depth levels (document_tree (T.relations texts.old) (document_seen document.now) depth levels)) }
     ensures unread { IfOk result (λ c. option_map unread_view c.unread ≡ first_kept None (unread_in_document (T.relations texts.old) (document_seen document.now) depth levels)) }
     ensures refused { IfErr result (λ f. Refuses (T.relations texts.old) (document_seen document.now) depth levels (T.faults texts.old) (T.faults texts.new) (document_tree (T.relations texts.old) (document_seen document.now) depth levels) (fault_view f)) }
@@ -82,7 +80,7 @@ pub fn table_of<'d, T: Texts>(
     })
 }
 
-/// Nothing is kept yet, and all merges are left. Listed values are asked by the table, and where none is known all count as unread. It takes
+/// Nothing is kept yet, and all merges are left. Stated values are asked by the table, and where none is known all count as unread. It takes
 /// no memory.
 pub fn nothing_kept<'d, 't, 'k>(
     alloc: Global,
@@ -126,7 +124,7 @@ fn table_with<'d, T: Texts>(
     Ok(table)
 }
 
-// The first listed value that isn't read by the table, which takes another conversion where some are listed.
+// The first stated value that isn't read by the table, which takes another conversion where some are stated.
 fn first_unread<'d, T: Texts>(
     alloc: Global,
     document: &'d Document,
@@ -138,8 +136,8 @@ fn first_unread<'d, T: Texts>(
     listed: &Option<Unread<'d>>,
 ) -> Result<Option<Unread<'d>>, Fault>
     requires { merges_view merges.now.items ≡ merges_in (document_tree (T.relations texts.old) (document_seen document.now) depth levels) }
-    ensures unread { IfOk result (λ o. option_map unread_view listed.now ≡ first_kept None (unread_listed (T.relations texts.old) None (document_seen document.now) (document_tree (T.relations texts.old) (document_seen document.now) depth levels))
-        → option_map unread_view o ≡ first_kept None (unread_listed (T.relations texts.old) (Some (table_view table.now)) (document_seen document.now) (document_tree (T.relations texts.old) (document_seen document.now) depth levels))) }
+    ensures unread { IfOk result (λ o. option_map unread_view listed.now ≡ first_kept None (unread_in (T.relations texts.old) None (document_seen document.now) (document_tree (T.relations texts.old) (document_seen document.now) depth levels))
+        → option_map unread_view o ≡ first_kept None (unread_in (T.relations texts.old) (Some (table_view table.now)) (document_seen document.now) (document_tree (T.relations texts.old) (document_seen document.now) depth levels))) }
     ensures refused { IfErr result (λ f. Refuses (T.relations texts.old) (document_seen document.now) depth levels (T.faults texts.old) (T.faults texts.new) (document_tree (T.relations texts.old) (document_seen document.now) depth levels) (fault_view f)) }
     ensures keeps { T.relations texts.new ≡ T.relations texts.old }
     ensures counts { T.faults texts.old ≤ T.faults texts.new }
@@ -160,7 +158,7 @@ fn unread_by_table<'d, T: Texts>(
     table: &TreeTable<'d>,
 ) -> Result<Option<Unread<'d>>, Fault>
     requires { merges_view merges.now.items ≡ merges_in (document_tree (T.relations texts.old) (document_seen document.now) depth levels) }
-    ensures unread { IfOk result (λ o. option_map unread_view o ≡ first_kept None (unread_listed (T.relations texts.old) (Some (table_view table.now)) (document_seen document.now) (document_tree (T.relations texts.old) (document_seen document.now) depth levels))) }
+    ensures unread { IfOk result (λ o. option_map unread_view o ≡ first_kept None (unread_in (T.relations texts.old) (Some (table_view table.now)) (document_seen document.now) (document_tree (T.relations texts.old) (document_seen document.now) depth levels))) }
     ensures refused { IfErr result (λ f. Refuses (T.relations texts.old) (document_seen document.now) depth levels (T.faults texts.old) (T.faults texts.new) (document_tree (T.relations texts.old) (document_seen document.now) depth levels) (fault_view f)) }
     ensures keeps { T.relations texts.new ≡ T.relations texts.old }
     ensures counts { T.faults texts.old ≤ T.faults texts.new }

@@ -1,29 +1,29 @@
-//! Listed values that aren't read.
-ghost use Rattle.std.specs.Prelude.{◌≡◌, ◌≤◌, ℕ, List, [], ◌∷◌, Some, IfErr, IfOk, OnOk, map, option_map};
+//! Stated values that aren't read: those that rules list, and then the default.
+ghost use Rattle.std.specs.Prelude.{◌≡◌, ◌≤◌, [], ◌∷◌, Some, IfErr, IfOk, OnOk, option_map};
 ghost use Rattle.schema_defs.specs.Texts.{Relations};
 ghost use Rattle.schema_types.specs.View.{kept_view as value_kept};
 ghost use Rattle.schema_tree.specs.Fault.{fault_view, memory};
-ghost use Rattle.convert_defs.specs.Values.{listed_by};
+ghost use Rattle.convert_defs.specs.Values.{inner_of, listed_by, listed_in};
+ghost use Rattle.row_types.specs.Given.{source_view};
 ghost use Rattle.row_types.specs.View.{row_view, rule_view};
 ghost use Rattle.entry_trees.specs.View.{table_view, tree_view};
-ghost use Rattle.row_trees.specs.Build.{built, first_of};
 ghost use Rattle.convert_trees.specs.Keeping.{kept_view, values_view, with_before, with_before_if};
 ghost use Rattle.merged_rows.specs.Starts.{path_by};
 ghost use Rattle.convert_trees.specs.Told.{NoAnswer};
 ghost use Rattle.scalar_takes.specs.Unread.{first_of as first_value};
 ghost use Rattle.convert_trees.specs.Unread.{rule_in, unread_by as unread_by_entry, unread_of, unread_values};
 
+use crate::defaults::unread_default;
 use crate::faults::text_fault;
 use crate::keeping::{Kept, Unread, Values};
 use crate::scope::Scope;
-use entry_trees::{Tree, TreeTable};
+use entry_trees::{Tree, TreeTable, Wrap};
 use merged_rows::location_of;
-use row_types::{Row, RowRule, Steps};
+use row_types::{Row, RowRule, Source, Steps};
 use scalar_takes::{first_listed_by, first_unread_by};
 use schema_tree::{Fault, Texts};
 use schema_types::Location;
 use serde_json::Value;
-use std::collections::VecDeque;
 
 // The rule of a row that lists values.
 fn rule_of<'d>(row: &Row<'d>) -> Option<RowRule<'d>>
@@ -55,6 +55,35 @@ fn place_of(scope: &Scope<'_, '_>, trail: &Vec<Steps<'_>>) -> Result<Location, F
     match location_of(scope.alloc, scope.start, trail) {
         Ok(place) => Ok(place),
         Err(_) => Err(Fault::Memory),
+    }
+}
+
+// What a newtype holds, which is asked of the values that its rule lists.
+#[tactic(auto, using(crate::proofs::Held::atom_held))]
+fn held<'r, 'd>(tree: &'r Tree<'d>) -> &'r Tree<'d>
+    ensures { tree_view result.now ≡ inner_of (tree_view tree.now) }
+{
+    match tree {
+        Tree::One(Wrap::Newtype { name: _, rule: _ }, held) => held,
+        Tree::One(Wrap::Option, _) => tree,
+        Tree::One(Wrap::Vec, _) => tree,
+        Tree::One(Wrap::Set, _) => tree,
+        Tree::One(Wrap::Array(_), _) => tree,
+        Tree::Atom(_) => tree,
+        Tree::Map(_, _) => tree,
+        Tree::Tuple(_) => tree,
+        Tree::Struct {
+            name: _,
+            closed: _,
+            fields: _,
+            rest: _,
+        } => tree,
+        Tree::Enum {
+            name: _,
+            closed: _,
+            tag: _,
+            variants: _,
+        } => tree,
     }
 }
 
@@ -98,64 +127,66 @@ fn unread_in<'d, T: Texts>(
     }
 }
 
-// The same of the tree of a row's part.
-fn unread_by<'d, T: Texts>(
-    scope: &Scope<'d, '_>,
-    texts: &mut T,
-    trail: &Vec<Steps<'d>>,
-    values: &Values<'d, '_, '_>,
-    rule: RowRule<'d>,
-    trees: &VecDeque<Tree<'d>>,
-) -> Result<Option<&'d Value>, Fault>
-    ensures found { IfOk result (λ o. option_map (λ v. value_kept v.now) o ≡ first_value (unread_by_entry (T.relations texts.old) (values_view values.now).known (first_of (map tree_view trees.now.items)) (listed_by (rule_view rule.entry)))) }
-    ensures refused { IfErr result (λ f. NoAnswer (path_by scope.now.start.now trail.now.items ∷ []) (T.faults texts.old) (T.faults texts.new) (fault_view f)) }
-    ensures keeps { T.relations texts.new ≡ T.relations texts.old }
-    ensures counts { T.faults texts.old ≤ T.faults texts.new }
-{
-    match trees.front() {
-        Some(tree) => unread_in(scope, texts, trail, values, rule, tree),
-        None => Err(Fault::Memory),
-    }
-}
-
-// The first value that a row lists and the tree of its part doesn't read.
-fn unread_value<'d, T: Texts>(
+// The first value that a row lists and what its tree holds doesn't read.
+fn unread_listed<'d, T: Texts>(
     scope: &Scope<'d, '_>,
     texts: &mut T,
     trail: &Vec<Steps<'d>>,
     values: &Values<'d, '_, '_>,
     row: &Row<'d>,
-    trees: &VecDeque<Tree<'d>>,
+    tree: &Tree<'d>,
 ) -> Result<Option<&'d Value>, Fault>
-    ensures found { IfOk result (λ o. (name : List ℕ) → option_map (λ v. value_kept v.now) o ≡ first_value (unread_values (T.relations texts.old) (values_view values.now).known (row_view (T.relations texts.old) row.now) (built name (row_view (T.relations texts.old) row.now) (map tree_view trees.now.items)))) }
+    ensures found { IfOk result (λ o. option_map (λ v. value_kept v.now) o ≡ first_value (unread_by_entry (T.relations texts.old) (values_view values.now).known (inner_of (tree_view tree.now)) (listed_in (row_view (T.relations texts.old) row.now)))) }
     ensures refused { IfErr result (λ f. NoAnswer (path_by scope.now.start.now trail.now.items ∷ []) (T.faults texts.old) (T.faults texts.new) (fault_view f)) }
     ensures keeps { T.relations texts.new ≡ T.relations texts.old }
     ensures counts { T.faults texts.old ≤ T.faults texts.new }
 {
     match rule_of(row) {
-        Some(rule) => unread_by(scope, texts, trail, values, rule, trees),
+        Some(rule) => unread_in(scope, texts, trail, values, rule, held(tree)),
         None => Ok(None),
     }
 }
 
-// Keeps the first value that a row lists and the tree of its part doesn't read, before what was kept.
+// The first value that a schema states and its tree doesn't read.
+fn unread_value<'d, T: Texts>(
+    scope: &Scope<'d, '_>,
+    texts: &mut T,
+    trail: &Vec<Steps<'d>>,
+    values: &Values<'d, '_, '_>,
+    source: &Source<'d>,
+    row: &Row<'d>,
+    tree: &Tree<'d>,
+) -> Result<Option<&'d Value>, Fault>
+    ensures found { IfOk result (λ o. option_map (λ v. value_kept v.now) o ≡ first_value (unread_values (T.relations texts.old) (values_view values.now).known (source_view source.now) (row_view (T.relations texts.old) row.now) (tree_view tree.now))) }
+    ensures refused { IfErr result (λ f. NoAnswer (path_by scope.now.start.now trail.now.items ∷ []) (T.faults texts.old) (T.faults texts.new) (fault_view f)) }
+    ensures keeps { T.relations texts.new ≡ T.relations texts.old }
+    ensures counts { T.faults texts.old ≤ T.faults texts.new }
+{
+    match unread_listed(scope, texts, trail, values, row, tree)? {
+        Some(value) => Ok(Some(value)),
+        None => unread_default(scope, texts, trail, values, source, row, tree),
+    }
+}
+
+// Keeps the first value that a schema states and its tree doesn't read, before what was kept.
 #[tactic(auto, using(crate::proofs::Ruled::some_kept, crate::proofs::Ruled::none_kept))]
 fn keep_unread<'d, T: Texts>(
     scope: &Scope<'d, '_>,
     texts: &mut T,
     kept: &mut Kept<'d, '_, '_>,
     trail: &Vec<Steps<'d>>,
+    source: &Source<'d>,
     row: &Row<'d>,
-    trees: &VecDeque<Tree<'d>>,
+    tree: &Tree<'d>,
 ) -> Result<(), Fault>
     ensures notes { OnOk result ((kept_view kept.new).notes ≡ (kept_view kept.old).notes) }
     ensures merges { OnOk result ((kept_view kept.new).merges ≡ (kept_view kept.old).merges) }
-    ensures values { OnOk result ((name : List ℕ) → (kept_view kept.new).values ≡ with_before (unread_of (T.relations texts.old) (kept_view kept.old).values.known (path_by scope.now.start.now trail.now.items) (row_view (T.relations texts.old) row.now) (built name (row_view (T.relations texts.old) row.now) (map tree_view trees.now.items))) (kept_view kept.old).values) }
+    ensures values { OnOk result ((kept_view kept.new).values ≡ with_before (unread_of (T.relations texts.old) (kept_view kept.old).values.known (path_by scope.now.start.now trail.now.items) (source_view source.now) (row_view (T.relations texts.old) row.now) (tree_view tree.now)) (kept_view kept.old).values) }
     ensures refused { IfErr result (λ f. NoAnswer (path_by scope.now.start.now trail.now.items ∷ []) (T.faults texts.old) (T.faults texts.new) (fault_view f)) }
     ensures keeps { T.relations texts.new ≡ T.relations texts.old }
     ensures counts { T.faults texts.old ≤ T.faults texts.new }
 {
-    match unread_value(scope, texts, trail, &kept.values, row, trees)? {
+    match unread_value(scope, texts, trail, &kept.values, source, row, tree)? {
         Some(value) => {
             let path = place_of(scope, trail)?;
             kept.values.unread = Some(Unread { path, value });
@@ -172,12 +203,13 @@ pub fn keep_unless<'d, T: Texts>(
     texts: &mut T,
     kept: &mut Kept<'d, '_, '_>,
     trail: &Vec<Steps<'d>>,
+    source: &Source<'d>,
     row: &Row<'d>,
-    trees: &VecDeque<Tree<'d>>,
+    tree: &Tree<'d>,
 ) -> Result<(), Fault>
     ensures notes { OnOk result ((kept_view kept.new).notes ≡ (kept_view kept.old).notes) }
     ensures merges { OnOk result ((kept_view kept.new).merges ≡ (kept_view kept.old).merges) }
-    ensures values { OnOk result ((name : List ℕ) → (kept_view kept.new).values ≡ with_before_if had (unread_of (T.relations texts.old) (kept_view kept.old).values.known (path_by scope.now.start.now trail.now.items) (row_view (T.relations texts.old) row.now) (built name (row_view (T.relations texts.old) row.now) (map tree_view trees.now.items))) (kept_view kept.old).values) }
+    ensures values { OnOk result ((kept_view kept.new).values ≡ with_before_if had (unread_of (T.relations texts.old) (kept_view kept.old).values.known (path_by scope.now.start.now trail.now.items) (source_view source.now) (row_view (T.relations texts.old) row.now) (tree_view tree.now)) (kept_view kept.old).values) }
     ensures refused { IfErr result (λ f. NoAnswer (path_by scope.now.start.now trail.now.items ∷ []) (T.faults texts.old) (T.faults texts.new) (fault_view f)) }
     ensures keeps { T.relations texts.new ≡ T.relations texts.old }
     ensures counts { T.faults texts.old ≤ T.faults texts.new }
@@ -185,6 +217,6 @@ pub fn keep_unless<'d, T: Texts>(
     if had {
         return Ok(());
     }
-    keep_unread(scope, texts, kept, trail, row, trees)?;
+    keep_unread(scope, texts, kept, trail, source, row, tree)?;
     Ok(())
 }

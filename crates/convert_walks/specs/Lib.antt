@@ -2,5 +2,4 @@ pub mod Spot
 pub mod Merging
 pub mod Tree
 pub mod Told
-pub mod Values
 pub mod Pages

@@ -1,7 +1,6 @@
 //! Worked documents whose rows merge: each group is the contract of a function that does nothing.
 
 ghost use Rattle.convert_walks.specs.Pages.{FirstMergePages, MergePages, FurtherMergePages, ConstantPages, AbsentPages, PlacePages, DepthPages, NamePages};
-ghost use Rattle.convert_walks.specs.Values.{ValueExamples};
 
 /// References that are merged, and walks that have too many steps.
 pub fn first_merge_pages()
@@ -26,11 +25,6 @@ pub fn constant_pages()
 /// Where null may stand for an absent member.
 pub fn absent_pages()
     ensures { AbsentPages }
-{}
-
-/// Defaults that what is merged doesn't read.
-pub fn value_examples()
-    ensures { ValueExamples }
 {}
 
 /// Where schemas stand inside one that a merge made or took over.

@@ -135,6 +135,14 @@ impl<'a> Module<'a> {
         Ok(sound)
     }
 
+    /// Whether the stated defaults of the module have the numbers that JSON values have: whole ones, from the least i64 to the greatest
+    /// u64. It takes no memory.
+    pub fn has_json_numbers(&self) -> bool
+        ensures { result ≡ list_all value_has (conversions_in self.now).defaults }
+    {
+        have_json_numbers(&self.conversions.defaults)
+    }
+
     /// Whether the stated defaults of the module are sound, which `read` and `judge` ask: each is read by the type of its
     /// field, without being met inside itself, and each value of the table has the numbers that JSON values have
     /// (serde.rs/field-attrs). It fails where memory runs out, or where the judge of texts failed.
@@ -145,7 +153,7 @@ impl<'a> Module<'a> {
         ensures keeps { T.relations texts.new ≡ T.relations texts.old }
         ensures counts { T.faults texts.old ≤ T.faults texts.new }
     {
-        if !have_json_numbers(&self.conversions.defaults) {
+        if !self.has_json_numbers() {
             return Ok(false);
         }
         match self.models_are_sound(texts) {

@@ -1,7 +1,7 @@
 -- What rows without parts make is formed.
 use Rattle.std.proofs.Common.{◌≡◌, true, refl, sym, true≢false}
 use Rattle.entry_defs.specs.Entry.{Entry, boolean_entry, integer_entry, text_entry, native_entry, any_entry, unit_entry, option_entry, vec_entry, set_entry, map_entry, tuple_entry, array_entry, reference, item, Shape, struct_shape, enum_shape, newtype_shape, Variants, no_variants, variant_then, unit_contents, newtype_contents, tuple_contents, struct_contents}
-use Rattle.stated_walks.proofs.Leaves.{are_units, is_leaf, is_leaf_shape}
+use Rattle.merged_documents.proofs.Leaves.{are_units, is_leaf, is_leaf_shape}
 use Rattle.space_trees.specs.Formed.{rest_is_wanted, is_formed_by, is_formed_shape_by, are_formed_variants_by}
 
 units-formed : (ws : Variants) → are_units ws ≡ true → are_formed_variants_by rest_is_wanted ws ≡ true

@@ -7,7 +7,7 @@ use Rattle.convert_defs.specs.Row.{Part, FieldRow, OutsideRow, VariantBody, unit
 use Rattle.convert_defs.specs.Convert.{same_flag, unit_in, has_two_places, is_without_rest, content_of, labeled, nullable_entry, alike_fields, alike_entries, row_fields, row_entries, outside_fields, is_closed, body_content, row_variants, entry_of, as_item}
 use Rattle.entry_space.proofs.Keys.{second-true, both-true}
 use Rattle.space_trees.specs.Formed.{has_place, has_field, rest_is_wanted, has_no_rest, is_formed_by, are_formed_by, is_formed_shape_by, are_formed_fields_by, are_formed_variants_by, is_formed_contents_by}
-use Rattle.stated_walks.proofs.Leaves.{HasLeaf}
+use Rattle.merged_documents.proofs.Leaves.{HasLeaf}
 use Rattle.formed_plans.proofs.LeafForm.{leaf-formed}
 
 abbrev pub Fine : Entry → Type 0

@@ -12,9 +12,9 @@ use Rattle.convert_walks.specs.Tree.{Standing, instead, if_merged, standing_entr
 use Rattle.conversion_laws.proofs.Targets.{body_entry}
 use Rattle.space_trees.specs.Formed.{rest_is_wanted, is_formed_shape_by}
 use Rattle.formed_plans.proofs.NamedForm.{IsWanted, table-named}
-use Rattle.stated_walks.proofs.Leaves.{row_has_leaf}
+use Rattle.merged_documents.proofs.Leaves.{row_has_leaf}
 use Rattle.formed_plans.proofs.MadeForm.{Fine, row-fine, item-fine}
-use Rattle.stated_walks.proofs.Tables.{all-trees, all-items}
+use Rattle.merged_documents.proofs.Tables.{all-trees, all-items}
 use Rattle.formed_plans.specs.Laws.{PlansAreFormed}
 
 module _ (r : Relations) (d : Document) (most : ℕ) where

@@ -3,7 +3,6 @@
 ghost use Rattle.formed_plans.specs.Laws.{PlansAreFormed};
 
 pub use merged_documents::laws::read_documents_are_planned;
-pub use stated_walks::laws::unstated_documents;
 
 /// The trees of a document's table, with names, are formed.
 pub fn plans_are_formed()

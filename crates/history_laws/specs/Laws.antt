@@ -1,5 +1,5 @@
 -- What the entries of a space mean: the tables that it comes to, and how one more schema is added. A walk has at most `depth` steps, and there are n levels.
--- Notes and listed values, which a space keeps beside its table, say nothing of entries: so the laws speak of tables alone.
+-- Notes and stated values, which a space keeps beside its table, say nothing of entries: so the laws speak of tables alone.
 use Rattle.std.specs.Prelude.{◌≡◌, ℕ, List, [], Bool, Some}
 use Rattle.token_trees.specs.Token.{Name}
 use Rattle.json_value.specs.Value.{Value, IsSmall}

@@ -13,7 +13,7 @@ use Rattle.space_trees.specs.Placed.{placed}
 abbrev pub with_names : Table → Table
 with_names t = named_table is_good_name t
 
--- the items that references lead to, alone: listed values are asked by them
+-- the items that references lead to, alone: stated values are asked by them
 abbrev pub led_alone : Table → Table
 led_alone t = record { targets = t.targets; trees = [] }
 

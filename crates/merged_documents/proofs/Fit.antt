@@ -27,11 +27,11 @@ use Rattle.convert_walks.specs.Tree.{entry_at, definition_spot, root_spot, root_
 use Rattle.conversion_laws.proofs.Clean.{names-are-apart}
 use Rattle.conversion_laws.proofs.Merging.{Known, May, may-end, ends-of, standing-in_order, standing-ends}
 use Rattle.conversion_laws.proofs.Targets.{table, body_entry, root-last, root-led, no-definition, no-target}
-use Rattle.stated_walks.proofs.Entries.{IsHandedOn, entry-says}
+use Rattle.merged_documents.proofs.Entries.{IsHandedOn, entry-says}
 use Rattle.merged_documents.proofs.Leading.{root-leads, leads-on}
 use Rattle.merged_documents.proofs.RowsAsk.{PartAsks, row-asks}
 use Rattle.merged_documents.proofs.RowsFit.{Said, row-each}
-use Rattle.stated_walks.proofs.Tables.{all-trees, all-items}
+use Rattle.merged_documents.proofs.Tables.{all-trees, all-items}
 
 as-item-asks : (Q : Target → Type 0) (n : List ℕ) (e : Entry) → Asked Q e → AskedByShape Q (as_item n e).shape
 as-item-asks Q n (item l h) x = x

@@ -1,3 +1,6 @@
+pub mod Entries
+pub mod Leaves
+pub mod Tables
 mod Types
 mod TenKeywords
 mod Reading

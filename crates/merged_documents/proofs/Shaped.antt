@@ -26,8 +26,8 @@ use Rattle.merged_documents.proofs.ShapedRows.{row_deep}
 use Rattle.merged_documents.proofs.ShapedFindings.{finding_shaped}
 use Rattle.merged_documents.specs.Laws.{ReadTablesAreShaped, ReadPlansAreEmittable}
 use Rattle.merged_documents.proofs.Documents.{read_tables_are_fit, read_documents_are_planned}
-use Rattle.stated_walks.proofs.Entries.{IsHandedOn, entry-says}
-use Rattle.stated_walks.proofs.Tables.{all-trees, all-items}
+use Rattle.merged_documents.proofs.Entries.{IsHandedOn, entry-says}
+use Rattle.merged_documents.proofs.Tables.{all-trees, all-items}
 
 -- ---- sizes
 

@@ -62,7 +62,7 @@ pub enum Row<'d> {
         closing: Closing,
         variants: Vec<VariantRow<'d>>,
     },
-    /// The merge of these, which is not built yet.
+    /// The merge of these.
     Merged(Vec<Part<'d>>),
     Refused(Cause),
 }

@@ -60,7 +60,7 @@ pub enum Fault {
         index: u64,
         path: Location,
     },
-    /// A default or a listed value that the type doesn't take.
+    /// A default or a listed value that isn't read.
     #[error("invalid value")]
     InvalidValue {
         path: Location,
@@ -101,8 +101,6 @@ pub enum InvalidKind {
 /// What isn't converted.
 #[derive(Clone, Copy, Debug, PartialEq, Eq)]
 pub enum UnsupportedKind {
-    /// Not built yet.
-    NotYet,
     Conditional,
     Mix,
     MixedEnum,

@@ -8,7 +8,7 @@ use Rattle.entry_defs.specs.Table.{Table}
 use Rattle.convert_walks.specs.Tree.{Node}
 use Rattle.convert_walks.specs.Told.{Note, notes_in}
 use Rattle.note_order.specs.Notes.{notes_view}
-use Rattle.typify_convert.specs.Unread.{At, first_kept, unread_listed}
+use Rattle.typify_convert.specs.Unread.{At, first_kept, unread_in}
 use Rattle.space_trees.specs.Leading.{found_led}
 use Rattle.space_trees.specs.Placed.{rest_or_first}
 use Rattle.history_laws.specs.Placing.{led_alone, next_id, target_id}
@@ -23,15 +23,15 @@ kept-both : (us vs : List At) → or_kept (first_kept None us) (first_kept None 
 kept-both [] vs = refl
 kept-both (u ∷ us) vs = refl
 
--- ---- notes and listed values behind others
+-- ---- notes and stated values behind others
 
 module _ (r : Relations) (d : Document) (most n : ℕ) (ts : List Node) (t : Table) (ns : List Note) (u : Option At) (found : FoundOf r d most n (Some t) ts ns u) (k l : Held) (h : History) (keeps : Keeps k h)
     (notes : notes_view l.notes.items ≡ notes_view k.notes.items ++ ns) (unread : option_map listed_view l.unread ≡ or_kept (option_map listed_view k.unread) u) where
   more-notes : notes_view l.notes.items ≡ h.notes ++ notes_in r d most n ts
   more-notes = notes ∙ (λ i. keeps.notes i ++ found.noted i)
 
-  more-unread : option_map listed_view l.unread ≡ first_kept None (h.unread ++ unread_listed r (Some t) d ts)
-  more-unread = unread ∙ (λ i. or_kept (keeps.unread i) (found.unread i)) ∙ kept-both h.unread (unread_listed r (Some t) d ts)
+  more-unread : option_map listed_view l.unread ≡ first_kept None (h.unread ++ unread_in r (Some t) d ts)
+  more-unread = unread ∙ (λ i. or_kept (keeps.unread i) (found.unread i)) ∙ kept-both h.unread (unread_in r (Some t) d ts)
 
 module _ (r : Relations) (d : Document) (most n : ℕ) (k l : Held) (h : History) (ns : List Note) (u : Option At) where
   abbrev all : Table

@@ -16,7 +16,7 @@ use Rattle.convert_walks.specs.Told.{Note, notes_in}
 use Rattle.typify_convert.specs.Merges.{MergeD, merges_in}
 use Rattle.schema_tree.specs.Fault.{FaultD}
 use Rattle.typify_convert.specs.Keeping.{KeptD, ValuesD}
-use Rattle.typify_convert.specs.Unread.{At, first_kept, unread_listed}
+use Rattle.typify_convert.specs.Unread.{At, first_kept, unread_in}
 use Rattle.typify_convert.specs.Told.{AreFine, IsTold, Refuses, Begins}
 use Rattle.typify_convert.proofs.Roots.{begins_all}
 use Rattle.typify_convert.proofs.Telling.{told_none, told_both, begins_first, begins_second, none_fine, refuses_first, refuses_second, refuses_from}
@@ -113,7 +113,7 @@ module _ (r : Relations) (d : Document) (most n : ℕ) where
   found_of known ms ts j k e told = record {
     fine = told.fine;
     noted = told.notes ∙ ap (λ (j : KeptD). j.notes ++ notes_in r d most n ts) e;
-    unread = ap (λ (v : ValuesD). v.unread) told.values ∙ ap (λ (j : KeptD). first_kept j.values.unread (unread_listed r j.values.known d ts)) e;
+    unread = ap (λ (v : ValuesD). v.unread) told.values ∙ ap (λ (j : KeptD). first_kept j.values.unread (unread_in r j.values.known d ts)) e;
   }
 
   -- the same, where merges are left with which the nodes begin
@@ -122,16 +122,16 @@ module _ (r : Relations) (d : Document) (most n : ℕ) where
 
   -- by what a judge asks later
   pub listed_later : (r' : Relations) (ns : List Note) (u : Option At) → r' ≡ r → FoundOf r d most n None (target_nodes r d most n) ns u
-      → u ≡ first_kept None (unread_listed r' None d (target_nodes r' d most n))
-  listed_later r' ns u e found = found.unread ∙ ap (λ (q : Relations). first_kept None (unread_listed q None d (target_nodes q d most n))) (sym e)
+      → u ≡ first_kept None (unread_in r' None d (target_nodes r' d most n))
+  listed_later r' ns u e found = found.unread ∙ ap (λ (q : Relations). first_kept None (unread_in q None d (target_nodes q d most n))) (sym e)
 
   -- with the first that isn't read by a table
   pub asked_found : (r' : Relations) (t : Table) (ns : List Note) (u o : Option At) → r' ≡ r → FoundOf r d most n None (target_nodes r d most n) ns u
-      → o ≡ first_kept None (unread_listed r' (Some t) d (target_nodes r' d most n)) → FoundOf r d most n (Some t) (target_nodes r d most n) ns o
+      → o ≡ first_kept None (unread_in r' (Some t) d (target_nodes r' d most n)) → FoundOf r d most n (Some t) (target_nodes r d most n) ns o
   asked_found r' t ns u o e found f = record {
     fine = found.fine;
     noted = found.noted;
-    unread = f ∙ ap (λ (q : Relations). first_kept None (unread_listed q (Some t) d (target_nodes q d most n))) e;
+    unread = f ∙ ap (λ (q : Relations). first_kept None (unread_in q (Some t) d (target_nodes q d most n))) e;
   }
 
   pub from_begins : (t : Start) (s : Schema) (known : Option Table) (ms : List MergeD) (j : KeptD) (h : Handed) → j ≡ none_kept known ms → MergesFrom d most n t s ms
@@ -143,28 +143,28 @@ module _ (r : Relations) (d : Document) (most n : ℕ) where
   -- ---- one schema at a spot, and the items that are asked
 
   module _ (o : Spot) (s : Schema) where
-    pub spot_listed : (r' : Relations) (ns : List Note) (u : Option At) → r' ≡ r → FoundOf r d most n None (tree_at r d most n o s) ns u → u ≡ first_kept None (unread_listed r' None d (tree_at r' d most n o s))
-    spot_listed r' ns u e found = found.unread ∙ ap (λ (q : Relations). first_kept None (unread_listed q None d (tree_at q d most n o s))) (sym e)
+    pub spot_listed : (r' : Relations) (ns : List Note) (u : Option At) → r' ≡ r → FoundOf r d most n None (tree_at r d most n o s) ns u → u ≡ first_kept None (unread_in r' None d (tree_at r' d most n o s))
+    spot_listed r' ns u e found = found.unread ∙ ap (λ (q : Relations). first_kept None (unread_in q None d (tree_at q d most n o s))) (sym e)
 
     pub spot_fine : (r' : Relations) → r' ≡ r → AreFine r d most n (tree_at r d most n o s) → AreFine r' d most n (tree_at r' d most n o s)
     spot_fine r' e t = subst (λ (q : Relations). AreFine q d most n (tree_at q d most n o s)) (sym e) t
 
     pub spot_found : (r' : Relations) (ns : List Note) (u v : Option At) → r' ≡ r → FoundOf r d most n None (tree_at r d most n o s) ns u
-        → v ≡ first_kept None (unread_listed r' (Some (targets_table r' d most n)) d (tree_at r' d most n o s)) → FoundOf r d most n (Some (targets_table r d most n)) (tree_at r d most n o s) ns v
+        → v ≡ first_kept None (unread_in r' (Some (targets_table r' d most n)) d (tree_at r' d most n o s)) → FoundOf r d most n (Some (targets_table r d most n)) (tree_at r d most n o s) ns v
     spot_found r' ns u v e found f = record {
       fine = found.fine;
       noted = found.noted;
-      unread = f ∙ ap (λ (q : Relations). first_kept None (unread_listed q (Some (targets_table q d most n)) d (tree_at q d most n o s))) e;
+      unread = f ∙ ap (λ (q : Relations). first_kept None (unread_in q (Some (targets_table q d most n)) d (tree_at q d most n o s))) e;
     }
 
     -- by a table that is that of the items, asked by a later judge
     pub spot_unread : (r' : Relations) (t : Table) (ns : List Note) (v : Option At) → r' ≡ r → t ≡ targets_table r d most n → FoundOf r' d most n (Some t) (tree_at r' d most n o s) ns v
-        → v ≡ first_kept None (unread_listed r (Some (targets_table r d most n)) d (tree_at r d most n o s))
-    spot_unread r' t ns v e g found = found.unread ∙ (λ i. first_kept None (unread_listed (e i) (Some (g i)) d (tree_at (e i) d most n o s)))
+        → v ≡ first_kept None (unread_in r (Some (targets_table r d most n)) d (tree_at r d most n o s))
+    spot_unread r' t ns v e g found = found.unread ∙ (λ i. first_kept None (unread_in (e i) (Some (g i)) d (tree_at (e i) d most n o s)))
 
     module _ (f : FaultD) where
       pub spot_refused : (old new : ℕ) → Refuses r d most n old new (tree_at r d most n o s) f → Refuses r d most n old new (with_items_asked r d most n (tree_at r d most n o s)) f
-      spot_refused old new k = refuses_first r d most n f old new (tree_at r d most n o s) (items_asked r d most n (unread_listed r None d (tree_at r d most n o s))) k
+      spot_refused old new k = refuses_first r d most n f old new (tree_at r d most n o s) (items_asked r d most n (unread_in r None d (tree_at r d most n o s))) k
 
       pub spot_refused_later : (r' : Relations) (first old new : ℕ) → r' ≡ r → first ≤ old → Refuses r' d most n old new (with_items_asked r' d most n (tree_at r' d most n o s)) f
           → Refuses r d most n first new (with_items_asked r d most n (tree_at r d most n o s)) f
@@ -181,9 +181,9 @@ module _ (r : Relations) (d : Document) (most n : ℕ) where
           (refuses_from r d most n f first old new (tree_at r d most n o s) h (subst (λ (q : Relations). Refuses q d most n old new (tree_at q d most n o s) f) e k))
 
       -- where something is listed
-      pub listed_refused : (old new : ℕ) (a : At) → Some a ≡ first_kept None (unread_listed r None d (tree_at r d most n o s)) → Refuses r d most n old new (tree_at r d most n o s ++ target_nodes r d most n) f
+      pub listed_refused : (old new : ℕ) (a : At) → Some a ≡ first_kept None (unread_in r None d (tree_at r d most n o s)) → Refuses r d most n old new (tree_at r d most n o s ++ target_nodes r d most n) f
           → Refuses r d most n old new (with_items_asked r d most n (tree_at r d most n o s)) f
-      listed_refused old new a e k = by (unread_listed r None d (tree_at r d most n o s)) e
+      listed_refused old new a e k = by (unread_in r None d (tree_at r d most n o s)) e
         where
           by : (us : List At) → Some a ≡ first_kept None us → Refuses r d most n old new (tree_at r d most n o s ++ items_asked r d most n us) f
           by [] e = absurd (cc)

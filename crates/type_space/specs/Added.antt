@@ -9,7 +9,7 @@ use Rattle.entry_defs.specs.Space.{Id}
 use Rattle.convert_defs.specs.Convert.{Handed}
 use Rattle.convert_walks.specs.Tree.{Node}
 use Rattle.convert_walks.specs.Told.{notes_in}
-use Rattle.typify_convert.specs.Unread.{At, unread_listed}
+use Rattle.typify_convert.specs.Unread.{At, unread_in}
 use Rattle.history_laws.specs.Placing.{with_tree, target_id, next_id}
 use Rattle.history_laws.specs.Added.{target_at, target_nodes, targets_table, schema_entry, schema_nodes}
 use Rattle.type_space.specs.Space.{History, Keeps}
@@ -23,7 +23,7 @@ module _ (r : Relations) (d : Document) (depth n : ℕ) where
   with_targets h = record {
     table = targets_table r d depth n;
     notes = h.notes ++ notes_in r d depth n (target_nodes r d depth n);
-    unread = h.unread ++ unread_listed r (Some (targets_table r d depth n)) d (target_nodes r d depth n);
+    unread = h.unread ++ unread_in r (Some (targets_table r d depth n)) d (target_nodes r d depth n);
   }
 
   -- with the tree of a schema, and what its nodes tell; what they list is asked by the items that references lead to
@@ -31,16 +31,16 @@ module _ (r : Relations) (d : Document) (depth n : ℕ) where
   with_nodes e ts h = record {
     table = with_tree h.table e;
     notes = h.notes ++ notes_in r d depth n ts;
-    unread = h.unread ++ unread_listed r (Some (targets_table r d depth n)) d ts;
+    unread = h.unread ++ unread_in r (Some (targets_table r d depth n)) d ts;
   }
 
-  -- those items are converted once more, where anything is listed
+  -- those items are converted once more, where anything is stated
   abbrev pub items_asked : List At → List Node
   items_asked [] = []
   items_asked (u ∷ us) = target_nodes r d depth n
 
   abbrev pub with_items_asked : List Node → List Node
-  with_items_asked ts = ts ++ items_asked (unread_listed r None d ts)
+  with_items_asked ts = ts ++ items_asked (unread_in r None d ts)
 
 module _ (r : Relations) (d : Document) (depth n : ℕ) (at : Location) (name : Handed) where
   -- with the id of it; nothing is converted where it has an item

@@ -1,4 +1,4 @@
--- What is found of nodes that are converted, and a listed value that isn't read, as a space keeps it.
+-- What is found of nodes that are converted, and a stated value that isn't read, as a space keeps it.
 use Rattle.std.specs.Prelude.{◌≡◌, ℕ, List, [], Option, Some, None}
 use Rattle.schema_defs.specs.Texts.{Relations}
 use Rattle.schema_defs.specs.Schema.{Document}
@@ -7,7 +7,7 @@ use Rattle.entry_defs.specs.Table.{Table}
 use Rattle.convert_walks.specs.Tree.{Node}
 use Rattle.convert_walks.specs.Told.{Note, notes_in}
 use Rattle.typify_convert.specs.Merges.{MergeD}
-use Rattle.typify_convert.specs.Unread.{At, first_kept, unread_listed}
+use Rattle.typify_convert.specs.Unread.{At, first_kept, unread_in}
 use Rattle.typify_convert.specs.Keeping.{KeptD}
 use Rattle.typify_convert.specs.Told.{AreFine}
 use Rattle.type_space.specs.declared.keeping.Listed.{Listed}
@@ -20,12 +20,12 @@ abbrev pub or_kept : Option At → Option At → Option At
 or_kept None b = b
 or_kept (Some a) b = Some a
 
--- nothing yet, where listed values are asked by that table, and these merges are left
+-- nothing yet, where stated values are asked by that table, and these merges are left
 abbrev pub none_kept : Option Table → List MergeD → KeptD
 none_kept k ms = record { notes = []; values = record { known = k; unread = None }; merges = ms }
 
--- neither a fault nor a stated default, the notes, and the first listed value that isn't read by the table; without one, the first that is listed
+-- no fault, the notes, and the first stated value that isn't read by the table; without one, the first that is stated
 pub record FoundOf (r : Relations) (d : Document) (most n : ℕ) (k : Option Table) (ts : List Node) (notes : List Note) (first : Option At) : Type 0 where
   pub fine : AreFine r d most n ts
   pub noted : notes ≡ notes_in r d most n ts
-  pub unread : first ≡ first_kept None (unread_listed r k d ts)
+  pub unread : first ≡ first_kept None (unread_in r k d ts)

@@ -7,7 +7,7 @@ use Rattle.typify_convert.specs.Unread.{At}
 abbrev pub IsRefusal : Option FaultD → (FaultD → Type 0) → FaultD → Type 0
 IsRefusal before Cause f = (f ≡ memory) ⊎ ((before ≡ Some f) ⊎ ((before ≡ None) × Cause f))
 
--- the first listed value that isn't read
+-- the first stated value that isn't read
 abbrev pub IsUnread : List At → FaultD → Type 0
 IsUnread us f = (at : At) × (more : List At) × (us ≡ at ∷ more) × (f ≡ invalid_value at.0 at.1)
 
@@ -22,7 +22,7 @@ abbrev pub IsToldAgain : Option FaultD → Option FaultD → Type 0
 IsToldAgain None found = found ≡ None
 IsToldAgain (Some before) found = (f : FaultD) × (found ≡ Some f) × IsOrMemory before f
 
--- ---- the first listed value that isn't read, by itself
+-- ---- the first stated value that isn't read, by itself
 
 abbrev pub IsFirstUnread : Option At → FaultD → Type 0
 IsFirstUnread o f = (at : At) × (o ≡ Some at) × (f ≡ invalid_value at.0 at.1)

@@ -14,7 +14,7 @@ use Rattle.type_space.specs.declared.keeping.Held.{Held}
 use Rattle.type_space.specs.Kept.{listed_view}
 use Rattle.type_space.specs.declared.space.TypeSpace.{TypeSpace}
 
--- the items that references lead to and the trees, before they are named; the notes, and the listed values that aren't read
+-- the items that references lead to and the trees, before they are named; the notes, and the stated values that aren't read
 pub record History : Type 0 where
   pub table : Table
   pub notes : List Note
@@ -23,7 +23,7 @@ pub record History : Type 0 where
 abbrev pub nothing : History
 nothing = record { table = record { targets = []; trees = [] }; notes = []; unread = [] }
 
--- the entries are those of the table, which gets its names; the notes are kept, and the first of the listed values
+-- the entries are those of the table, which gets its names; the notes are kept, and the first of the stated values
 pub record Keeps (k : Held) (h : History) : Type 0 where
   pub plans : Plans k.plan h.table
   pub notes : notes_view k.notes.items ≡ h.notes

@@ -13,7 +13,7 @@ ghost use Rattle.note_order.specs.Notes.{notes_view};
 ghost use Rattle.typify_convert.specs.Merges.{merges_in, merges_view};
 ghost use Rattle.typify_convert.specs.Keeping.{kept_view, unread_view};
 ghost use Rattle.typify_convert.specs.Told.{AreFine, Begins, IsTold, Refuses};
-ghost use Rattle.typify_convert.specs.Unread.{first_kept, unread_listed};
+ghost use Rattle.typify_convert.specs.Unread.{first_kept, unread_in};
 ghost use Rattle.type_space.specs.Gathered.{MergesAll};
 ghost use Rattle.type_space.specs.Kept.{FoundOf};
 ghost use Rattle.type_space.specs.Space.{History, Keeps};
@@ -32,7 +32,7 @@ use typify_convert::{
     Kept, Merge, PlacedNote, Unread, definition_targets, nothing_kept, root_name, root_tree,
 };
 
-/// The items, with their notes, and the first listed value that isn't read.
+/// The items, with their notes, and the first stated value that isn't read.
 #[derive(Drop)]
 struct Targets<'d> {
     table: TreeTable<'d>,
@@ -148,7 +148,7 @@ fn targets_with<'d, T: Texts>(
     Ok(table)
 }
 
-// The items, where listed values are asked by a table.
+// The items, where stated values are asked by a table.
 fn targets_by<'d, T: Texts>(
     alloc: Global,
     document: &'d Document,
@@ -193,7 +193,7 @@ pub(crate) fn items_of<'d, T: Texts>(
     Ok(found.table)
 }
 
-// The first listed value that isn't read by the items, which takes another conversion where some are listed.
+// The first stated value that isn't read by the items, which takes another conversion where some are stated.
 fn first_unread<'d, T: Texts>(
     alloc: Global,
     document: &'d Document,
@@ -205,8 +205,8 @@ fn first_unread<'d, T: Texts>(
     listed: &Option<Unread<'d>>,
 ) -> Result<Option<Unread<'d>>, Fault>
     requires merges { MergesAll (document_seen document.now) depth levels (merges_view merges.now.items) }
-    requires listed { option_map unread_view listed.now ≡ first_kept None (unread_listed (T.relations texts.old) None (document_seen document.now) (target_nodes (T.relations texts.old) (document_seen document.now) depth levels)) }
-    ensures unread { IfOk result (λ o. option_map unread_view o ≡ first_kept None (unread_listed (T.relations texts.old) (Some (table_view table.now)) (document_seen document.now) (target_nodes (T.relations texts.old) (document_seen document.now) depth levels))) }
+    requires listed { option_map unread_view listed.now ≡ first_kept None (unread_in (T.relations texts.old) None (document_seen document.now) (target_nodes (T.relations texts.old) (document_seen document.now) depth levels)) }
+    ensures unread { IfOk result (λ o. option_map unread_view o ≡ first_kept None (unread_in (T.relations texts.old) (Some (table_view table.now)) (document_seen document.now) (target_nodes (T.relations texts.old) (document_seen document.now) depth levels))) }
     ensures refused { IfErr result (λ f. Refuses (T.relations texts.old) (document_seen document.now) depth levels (T.faults texts.old) (T.faults texts.new) (target_nodes (T.relations texts.old) (document_seen document.now) depth levels) (fault_view f)) }
     ensures keeps { T.relations texts.new ≡ T.relations texts.old }
     ensures counts { T.faults texts.old ≤ T.faults texts.new }
@@ -227,7 +227,7 @@ fn unread_by_items<'d, T: Texts>(
     table: &TreeTable<'d>,
 ) -> Result<Option<Unread<'d>>, Fault>
     requires { MergesAll (document_seen document.now) depth levels (merges_view merges.now.items) }
-    ensures unread { IfOk result (λ o. option_map unread_view o ≡ first_kept None (unread_listed (T.relations texts.old) (Some (table_view table.now)) (document_seen document.now) (target_nodes (T.relations texts.old) (document_seen document.now) depth levels))) }
+    ensures unread { IfOk result (λ o. option_map unread_view o ≡ first_kept None (unread_in (T.relations texts.old) (Some (table_view table.now)) (document_seen document.now) (target_nodes (T.relations texts.old) (document_seen document.now) depth levels))) }
     ensures refused { IfErr result (λ f. Refuses (T.relations texts.old) (document_seen document.now) depth levels (T.faults texts.old) (T.faults texts.new) (target_nodes (T.relations texts.old) (document_seen document.now) depth levels) (fault_view f)) }
     ensures keeps { T.relations texts.new ≡ T.relations texts.old }
     ensures counts { T.faults texts.old ≤ T.faults texts.new }

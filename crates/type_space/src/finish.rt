@@ -59,7 +59,7 @@ fn ended(
     })
 }
 
-/// The first listed value that isn't read, or else what is emitted, with the notes in their order.
+/// The first stated value that isn't read, or else what is emitted, with the notes in their order.
 pub(crate) fn finished(alloc: Global, held: Held, root: TypeId) -> Result<Emitted, Fault>
     ensures emission { IfOk result (λ e. emitted_view e ≡ emission_at (seen held.plan.space) (id_view root)) }
     ensures notes { IfOk result (λ e. e.notes.items ≡ map note_of (ordered (notes_view held.notes.items))) }

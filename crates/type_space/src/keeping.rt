@@ -10,14 +10,14 @@ use serde_json::Value;
 use std::alloc::AllocError;
 use typify_convert::{PlacedNote, Unread};
 
-/// A listed value that its schema's other keywords don't read, with the place of the schema.
+/// A listed value, or a default, that isn't read, with the place of the schema.
 #[derive(Drop)]
 pub(crate) struct Listed {
     pub path: Location,
     pub value: Value,
 }
 
-/// The entries with the names that are given, the notes in the order of conversion, and the first listed value that isn't read. Nothing here
+/// The entries with the names that are given, the notes in the order of conversion, and the first stated value that isn't read. Nothing here
 /// borrows from what conversion merges.
 #[derive(Drop)]
 pub(crate) struct Held {

@@ -14,7 +14,7 @@ ghost use Rattle.note_order.specs.Notes.{notes_view};
 ghost use Rattle.typify_convert.specs.Merges.{merges_view};
 ghost use Rattle.typify_convert.specs.Keeping.{unread_view};
 ghost use Rattle.typify_convert.specs.Told.{AreFine, Refuses};
-ghost use Rattle.typify_convert.specs.Unread.{first_kept, unread_listed};
+ghost use Rattle.typify_convert.specs.Unread.{first_kept, unread_in};
 ghost use Rattle.type_space.specs.Gathered.{MergesAll, MergesFrom};
 ghost use Rattle.type_space.specs.Kept.{FoundOf};
 ghost use Rattle.history_laws.specs.Placing.{next_id, target_id};
@@ -35,7 +35,7 @@ use space_trees::led_to;
 use std::alloc::{AllocError, Global};
 use typify_convert::{Merge, PlacedNote, Unread, nothing_kept, root_name, tree_at};
 
-/// The tree of a schema, with its notes, and the first listed value that isn't read.
+/// The tree of a schema, with its notes, and the first stated value that isn't read.
 #[derive(Drop)]
 struct Found<'n> {
     tree: Tree<'n>,
@@ -63,7 +63,7 @@ fn name_at<'n>(document: &'n Document, at: &Location, name: Option<&'n str>) -> 
     }
 }
 
-// A schema converted, where listed values are asked by a table.
+// A schema converted, where stated values are asked by a table.
 fn found_by<'n, T: Texts>(
     alloc: Global,
     document: &'n Document,
@@ -94,7 +94,7 @@ fn found_by<'n, T: Texts>(
     })
 }
 
-// The first listed value that isn't read by the items that references lead to, which are made of what was merged for them.
+// The first stated value that isn't read by the items that references lead to, which are made of what was merged for them.
 fn unread_by_items<'n, T: Texts>(
     alloc: Global,
     document: &'n Document,
@@ -110,7 +110,7 @@ fn unread_by_items<'n, T: Texts>(
     requires merges { MergesFrom (document_seen document.now) depth levels start.now (schema_view schema.now) (merges_view merges.now.items) }
     requires below { MergesAll (document_seen document.now) depth levels (merges_view below.now.items) }
     requires fine { AreFine (T.relations texts.old) (document_seen document.now) depth levels (tree_nodes (T.relations texts.old) (document_seen document.now) depth levels (spot_of start.now [] (option_map (λ n. n.now) wanted)) (schema_view schema.now)) }
-    ensures unread { IfOk result (λ o. option_map unread_view o ≡ first_kept None (unread_listed (T.relations texts.old) (Some (targets_table (T.relations texts.old) (document_seen document.now) depth levels)) (document_seen document.now) (tree_nodes (T.relations texts.old) (document_seen document.now) depth levels (spot_of start.now [] (option_map (λ n. n.now) wanted.entry)) (schema_view schema.now)))) }
+    ensures unread { IfOk result (λ o. option_map unread_view o ≡ first_kept None (unread_in (T.relations texts.old) (Some (targets_table (T.relations texts.old) (document_seen document.now) depth levels)) (document_seen document.now) (tree_nodes (T.relations texts.old) (document_seen document.now) depth levels (spot_of start.now [] (option_map (λ n. n.now) wanted.entry)) (schema_view schema.now)))) }
     ensures refused { IfErr result (λ f. Refuses (T.relations texts.old) (document_seen document.now) depth levels (T.faults texts.old) (T.faults texts.new) (tree_nodes (T.relations texts.old) (document_seen document.now) depth levels (spot_of start.now [] (option_map (λ n. n.now) wanted.entry)) (schema_view schema.now) ++ target_nodes (T.relations texts.old) (document_seen document.now) depth levels) (fault_view f)) }
     ensures keeps { T.relations texts.new ≡ T.relations texts.old }
     ensures counts { T.faults texts.old ≤ T.faults texts.new }
@@ -136,7 +136,7 @@ fn unread_asked<'n, T: Texts>(
 ) -> Result<Option<Unread<'n>>, Fault>
     requires merges { MergesFrom (document_seen document.now) depth levels start.now (schema_view schema.now) (merges_view merges.now.items) }
     requires fine { AreFine (T.relations texts.old) (document_seen document.now) depth levels (tree_nodes (T.relations texts.old) (document_seen document.now) depth levels (spot_of start.now [] (option_map (λ n. n.now) wanted)) (schema_view schema.now)) }
-    ensures unread { IfOk result (λ o. option_map unread_view o ≡ first_kept None (unread_listed (T.relations texts.old) (Some (targets_table (T.relations texts.old) (document_seen document.now) depth levels)) (document_seen document.now) (tree_nodes (T.relations texts.old) (document_seen document.now) depth levels (spot_of start.now [] (option_map (λ n. n.now) wanted.entry)) (schema_view schema.now)))) }
+    ensures unread { IfOk result (λ o. option_map unread_view o ≡ first_kept None (unread_in (T.relations texts.old) (Some (targets_table (T.relations texts.old) (document_seen document.now) depth levels)) (document_seen document.now) (tree_nodes (T.relations texts.old) (document_seen document.now) depth levels (spot_of start.now [] (option_map (λ n. n.now) wanted.entry)) (schema_view schema.now)))) }
     ensures refused { IfErr result (λ f. Refuses (T.relations texts.old) (document_seen document.now) depth levels (T.faults texts.old) (T.faults texts.new) (tree_nodes (T.relations texts.old) (document_seen document.now) depth levels (spot_of start.now [] (option_map (λ n. n.now) wanted.entry)) (schema_view schema.now) ++ target_nodes (T.relations texts.old) (document_seen document.now) depth levels) (fault_view f)) }
     ensures keeps { T.relations texts.new ≡ T.relations texts.old }
     ensures counts { T.faults texts.old ≤ T.faults texts.new }
@@ -148,7 +148,7 @@ fn unread_asked<'n, T: Texts>(
     Ok(unread)
 }
 
-// Nothing is asked where no value is listed.
+// Nothing is asked where no value is stated.
 fn first_unread<'n, T: Texts>(
     alloc: Global,
     document: &'n Document,
@@ -162,9 +162,9 @@ fn first_unread<'n, T: Texts>(
     schema: &'n Schema,
 ) -> Result<Option<Unread<'n>>, Fault>
     requires merges { MergesFrom (document_seen document.now) depth levels start.now (schema_view schema.now) (merges_view merges.now.items) }
-    requires listed { option_map unread_view listed.now ≡ first_kept None (unread_listed (T.relations texts.old) None (document_seen document.now) (tree_nodes (T.relations texts.old) (document_seen document.now) depth levels (spot_of start.now [] (option_map (λ n. n.now) wanted)) (schema_view schema.now))) }
+    requires listed { option_map unread_view listed.now ≡ first_kept None (unread_in (T.relations texts.old) None (document_seen document.now) (tree_nodes (T.relations texts.old) (document_seen document.now) depth levels (spot_of start.now [] (option_map (λ n. n.now) wanted)) (schema_view schema.now))) }
     requires fine { AreFine (T.relations texts.old) (document_seen document.now) depth levels (tree_nodes (T.relations texts.old) (document_seen document.now) depth levels (spot_of start.now [] (option_map (λ n. n.now) wanted)) (schema_view schema.now)) }
-    ensures unread { IfOk result (λ o. option_map unread_view o ≡ first_kept None (unread_listed (T.relations texts.old) (Some (targets_table (T.relations texts.old) (document_seen document.now) depth levels)) (document_seen document.now) (tree_nodes (T.relations texts.old) (document_seen document.now) depth levels (spot_of start.now [] (option_map (λ n. n.now) wanted.entry)) (schema_view schema.now)))) }
+    ensures unread { IfOk result (λ o. option_map unread_view o ≡ first_kept None (unread_in (T.relations texts.old) (Some (targets_table (T.relations texts.old) (document_seen document.now) depth levels)) (document_seen document.now) (tree_nodes (T.relations texts.old) (document_seen document.now) depth levels (spot_of start.now [] (option_map (λ n. n.now) wanted.entry)) (schema_view schema.now)))) }
     ensures refused { IfErr result (λ f. Refuses (T.relations texts.old) (document_seen document.now) depth levels (T.faults texts.old) (T.faults texts.new) (with_items_asked (T.relations texts.old) (document_seen document.now) depth levels (tree_nodes (T.relations texts.old) (document_seen document.now) depth levels (spot_of start.now [] (option_map (λ n. n.now) wanted.entry)) (schema_view schema.now))) (fault_view f)) }
     ensures keeps { T.relations texts.new ≡ T.relations texts.old }
     ensures counts { T.faults texts.old ≤ T.faults texts.new }
@@ -177,7 +177,7 @@ fn first_unread<'n, T: Texts>(
     }
 }
 
-// A schema converted, where listed values are asked by the items that references lead to.
+// A schema converted, where stated values are asked by the items that references lead to.
 fn found_at<'n, T: Texts>(
     alloc: Global,
     document: &'n Document,

@@ -214,7 +214,7 @@ impl<'d> TypeSpace<'d> {
     }
 
     /// What is emitted for the space, where the type of one entry is the root's, with the notes on all that was converted. Refused is
-    /// the first listed value, in the order of conversion, that the type of its schema's other keywords doesn't read.
+    /// the first stated value, in the order of conversion, that isn't read.
     pub fn finish<T: Texts>(self, root: TypeId, texts: &mut T) -> Result<Emitted, Fault>
         requires there { is_some (entry_at (entries_in self) (id_view root)) ≡ true }
         ensures emission { IfOk result (λ e. emitted_view e ≡ emission_at (entries_in self.entry) (id_view root)) }

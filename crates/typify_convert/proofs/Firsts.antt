@@ -7,9 +7,8 @@ use Rattle.schema_defs.specs.Schema.{Document}
 use Rattle.schema_tree.specs.Fault.{FaultD, memory}
 use Rattle.convert_walks.specs.Tree.{Node, document_tree}
 use Rattle.convert_walks.specs.Told.{Reason, state_faults, faults_in, faults_of}
-use Rattle.convert_trees.specs.Told.{no_memory, failed, TellsOf, of_reason, of_default, Refuses, by_none, by_fault}
+use Rattle.convert_trees.specs.Told.{no_memory, failed, TellsOf, of_reason, Refuses, by_none, by_fault}
 use Rattle.convert_trees.specs.Unread.{At, first_kept, unread_in_document}
-use Rattle.formed_plans.specs.Stated.{stated_at, stated_in, stated_in_document}
 use Rattle.typify_convert.specs.Unread.{TellsUnread, IsToldUnread}
 use Rattle.typify_convert.specs.Refused.{IsFirst, IsRefusal}
 
@@ -35,24 +34,15 @@ module _ (r : Relations) (d : Document) (most n : ℕ) where
   abbrev faults_at : Node → List (Location × Reason)
   faults_at t = state_faults r d most n t.spot t.schema t.state
 
-  abbrev places_at : Node → List Location
-  places_at t = stated_at r d t.spot t.schema t.state
-
   none_at : (before : List Node) (at : Node) (after : List Node) → faults_in r d most n (before ++ at ∷ after) ≡ [] → faults_at at ≡ []
   none_at [] at after h = none_before (faults_at at) (faults_in r d most n after) h
   none_at (b ∷ bs) at after h = none_at bs at after (none_behind (faults_at b) (faults_in r d most n (bs ++ at ∷ after)) h)
 
-  none_stated_at : (before : List Node) (at : Node) (after : List Node) → stated_in r d (before ++ at ∷ after) ≡ [] → places_at at ≡ []
-  none_stated_at [] at after h = none_before (places_at at) (stated_in r d after) h
-  none_stated_at (b ∷ bs) at after h = none_stated_at bs at after (none_behind (places_at b) (stated_in r d (bs ++ at ∷ after)) h)
+  told_is_one : (at : Node) (f : FaultD) → TellsOf r d most n at f → faults_at at ≡ [] → ⊥
+  told_is_one at f (of_reason l why more e x) h = none_listed (l, why) more (faults_at at) h e
 
-  told_is_one : (at : Node) (f : FaultD) → TellsOf r d most n at f → faults_at at ≡ [] → places_at at ≡ [] → ⊥
-  told_is_one at f (of_reason l why more e x) h s = none_listed (l, why) more (faults_at at) h e
-  told_is_one at f (of_default l more e k x) h s = none_listed l more (places_at at) s k
-
-  pub first_is_one : (f : FaultD) → IsFirst r d most n f → faults_of r d most n ≡ [] → stated_in_document r d most n ≡ [] → ⊥
-  first_is_one f t h s =
-      told_is_one t.at f t.told (none_at t.before t.at t.after (ap (faults_in r d most n) (sym t.split) ∙ h)) (none_stated_at t.before t.at t.after (ap (stated_in r d) (sym t.split) ∙ s))
+  pub first_is_one : (f : FaultD) → IsFirst r d most n f → faults_of r d most n ≡ [] → ⊥
+  first_is_one f t h = told_is_one t.at f t.told (none_at t.before t.at t.after (ap (faults_in r d most n) (sym t.split) ∙ h))
 
   -- ---- refusals
 
@@ -64,14 +54,14 @@ module _ (r : Relations) (d : Document) (most n : ℕ) where
   pub without_memory : (old new : ℕ) (f : FaultD) → f ≡ memory → IsRefusal r d most n old new f
   without_memory old new f e = inl e
 
-  by_list : (old new : ℕ) (f : FaultD) (us : List At) (at : At) → faults_of r d most n ≡ [] → stated_in_document r d most n ≡ [] → unread_in_document r d most n ≡ us → first_kept None us ≡ Some at → TellsUnread at f → IsRefusal r d most n old new f
-  by_list old new f [] at h s e k t = absurd (cc)
-  by_list old new f (u ∷ us) at h s e k (inl m) = inl m
-  by_list old new f (u ∷ us) at h s e k (inr i) = inr (inr (inr (h, s, (at, us, (e ∙ (let same : u ≡ at = cc in ap (λ u. u ∷ us) same)), i))))
+  by_list : (old new : ℕ) (f : FaultD) (us : List At) (at : At) → faults_of r d most n ≡ [] → unread_in_document r d most n ≡ us → first_kept None us ≡ Some at → TellsUnread at f → IsRefusal r d most n old new f
+  by_list old new f [] at h e k t = absurd (cc)
+  by_list old new f (u ∷ us) at h e k (inl m) = inl m
+  by_list old new f (u ∷ us) at h e k (inr i) = inr (inr (inr (h, (at, us, (e ∙ (let same : u ≡ at = cc in ap (λ u. u ∷ us) same)), i))))
 
-  -- the first listed value that isn't read
-  pub unread_refused : (old new : ℕ) (f : FaultD) (o : Option At) → faults_of r d most n ≡ [] → stated_in_document r d most n ≡ [] → o ≡ first_kept None (unread_in_document r d most n) → IsToldUnread o f → IsRefusal r d most n old new f
-  unread_refused old new f o h s e t = by_list old new f (unread_in_document r d most n) t.0 h s refl (sym e ∙ t.1) t.2
+  -- the first stated value that isn't read
+  pub unread_refused : (old new : ℕ) (f : FaultD) (o : Option At) → faults_of r d most n ≡ [] → o ≡ first_kept None (unread_in_document r d most n) → IsToldUnread o f → IsRefusal r d most n old new f
+  unread_refused old new f o h e t = by_list old new f (unread_in_document r d most n) t.0 h refl (sym e ∙ t.1) t.2
 
 -- none is kept where all are read
 pub all_read : (us : List At) → None ≡ first_kept None us → us ≡ []

@@ -9,19 +9,18 @@ use Rattle.convert_walks.specs.Told.{faults_of}
 use Rattle.convert_walks.specs.Tree.{document_tree}
 use Rattle.convert_trees.specs.Told.{places_of_nodes, Tells}
 use Rattle.convert_trees.specs.Unread.{At, unread_in_document}
-use Rattle.formed_plans.specs.Stated.{stated_in_document}
 
 module _ (r : Relations) (d : Document) (most n : ℕ) where
-  -- the first fault of its schemas, or the first default that an optional property of theirs states, which isn't checked yet, in the order of conversion
+  -- the first fault of its schemas, in the order of conversion
   abbrev pub IsFirst : FaultD → Type 0
   IsFirst f = Tells r d most n (document_tree r d most n) f
 
-  -- where they have neither, the first listed value, in the same order, that the type of its schema's other keywords doesn't read
+  -- where they have none, the first value that a schema states, in the same order, and that isn't read
   abbrev pub IsUnread : FaultD → Type 0
   IsUnread f = (at : At) × (more : List At) × (unread_in_document r d most n ≡ at ∷ more) × (f ≡ invalid_value at.0 at.1)
 
   abbrev pub IsCause : FaultD → Type 0
-  IsCause f = IsFirst f ⊎ ((faults_of r d most n ≡ []) × (stated_in_document r d most n ≡ []) × IsUnread f)
+  IsCause f = IsFirst f ⊎ ((faults_of r d most n ≡ []) × IsUnread f)
 
   -- a failure of the judge of texts, whose count rose, told at the place of one of its schemas
   abbrev pub IsFailure : ℕ → ℕ → FaultD → Type 0

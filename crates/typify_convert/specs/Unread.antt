@@ -1,7 +1,7 @@
--- What is told of a listed value that isn't read.
+-- What is told of a stated value that isn't read.
 use Rattle.std.specs.Prelude.{◌≡◌, ◌⊎◌, Option, Some}
 use Rattle.schema_tree.specs.Fault.{FaultD, memory, invalid_value}
-pub use Rattle.convert_trees.specs.Unread.{At, first_kept, unread_in_document, unread_listed}
+pub use Rattle.convert_trees.specs.Unread.{At, first_kept, unread_in_document, unread_in}
 
 -- its place and itself, or want of memory
 abbrev pub TellsUnread : At → FaultD → Type 0

@@ -1,4 +1,4 @@
-//! Values that the rules of a document list.
+//! Values that the schemas of a document state.
 ghost use Rattle.std.specs.Prelude.{◌≡◌, ◌⊎◌, None, IfErr, OnOk, option_map};
 ghost use Rattle.schema_tree.specs.Fault.{fault_view, memory};
 ghost use Rattle.convert_trees.specs.Keeping.{unread_view};
@@ -19,7 +19,7 @@ fn invalid(unread: Unread<'_>) -> Fault
     }
 }
 
-/// Tells of the first listed value that isn't read.
+/// Tells of the first stated value that isn't read.
 pub(crate) fn check_read(unread: Option<Unread<'_>>) -> Result<(), Fault>
     ensures read { OnOk result (unread.entry ≡ None) }
     ensures told { IfErr result (λ f. IsToldUnread (option_map unread_view unread.entry) (fault_view f)) }

@@ -1,12 +1,14 @@
 //! A document converted.
-ghost use Rattle.std.specs.Prelude.{◌≡◌, ◌≤◌, [], IfOk, IfErr, OnOk, map};
+ghost use Rattle.std.specs.Prelude.{◌≡◌, ◌≤◌, [], IfOk, IfErr, OnOk, map, true};
 ghost use Rattle.schema_tree.specs.Document.{view as document_seen};
 ghost use Rattle.schema_tree.specs.Fault.{fault_view};
 ghost use Rattle.entry_defs.specs.Sound.{IsSound};
 ghost use Rattle.entry_defs.specs.Table.{root_of};
 ghost use Rattle.naming_defs.specs.Names.{named_table as named_table_of};
 ghost use Rattle.naming_defs.specs.Good.{is_good_name};
-ghost use Rattle.emit_defs.specs.Emission.{emission as emission_by};
+ghost use Rattle.emit_defs.specs.Emission.{emission as emission_by, models_of};
+ghost use Rattle.reading_defs.specs.Laws.{defaults_are_sound};
+ghost use Rattle.formed_plans.specs.Laws.{plan_of};
 ghost use Rattle.schema_defs.specs.Texts.{Relations};
 ghost use Rattle.schema_tree.specs.Fault.{memory};
 ghost use Rattle.convert_walks.specs.Told.{faults_of, notes_of, ordered};
@@ -14,7 +16,6 @@ ghost use Rattle.convert_walks.specs.Tree.{document_tree};
 ghost use Rattle.convert_trees.specs.Merges.{merges_in, merges_view};
 ghost use Rattle.document_laws.specs.Laws.{WasRead};
 ghost use Rattle.convert_trees.specs.Unread.{unread_in_document};
-ghost use Rattle.formed_plans.specs.Stated.{stated_in_document};
 ghost use Rattle.entry_trees.specs.View.{table_view};
 ghost use Rattle.note_order.specs.Notes.{notes_view};
 ghost use Rattle.space_trees.specs.Formed.{IsFormed};
@@ -28,8 +29,9 @@ use crate::nesting::levels;
 use crate::note::Note;
 use crate::noting::notes_of;
 use convert_trees::{Merge, merges_of, table_of};
+use default_documents::laws::read_defaults_are_sound;
 use entry_trees::TreeTable;
-use formed_plans::laws::{plans_are_formed, read_documents_are_planned, unstated_documents};
+use formed_plans::laws::{plans_are_formed, read_documents_are_planned};
 use note_order::{PlacedNote, ordered_notes};
 use schema_tree::{Conversions, Document, Fault, Texts};
 use space_emission::emit;
@@ -98,15 +100,14 @@ fn converted_within<T: Texts>(
     ensures notes { IfOk result (λ e. e.notes.items ≡ map note_of (notes_of (T.relations texts.old) (document_seen document.now) depth levels)) }
     ensures faultless { OnOk result (faults_of (T.relations texts.old) (document_seen document.now) depth levels ≡ []) }
     ensures read { OnOk result (unread_in_document (T.relations texts.old) (document_seen document.now) depth levels ≡ []) }
-    ensures unstated { OnOk result (stated_in_document (T.relations texts.old) (document_seen document.now) depth levels ≡ []) }
-    ensures built { OnOk result ((emission_of (T.relations texts.old) (document_seen document.now) depth levels).conversions.defaults ≡ []) }
+    ensures sound { OnOk result (defaults_are_sound (models_of (plan_of (T.relations texts.old) (document_seen document.now) depth levels)) (emission_of (T.relations texts.old) (document_seen document.now) depth levels).conversions (T.relations texts.old) ≡ true) }
     ensures refused { IfErr result (λ f. IsRefusal (T.relations texts.old) (document_seen document.now) depth levels (T.faults texts.old) (T.faults texts.new) (fault_view f)) }
     ensures keeps { T.relations texts.new ≡ T.relations texts.old }
     ensures counts { T.faults texts.old ≤ T.faults texts.new }
 {
     read_documents_are_planned();
+    read_defaults_are_sound();
     plans_are_formed();
-    unstated_documents();
     let merges = merged(alloc, document, depth, levels)?;
     let converted = table_of(alloc, document, &merges, depth, levels, texts)?;
     check_read(converted.unread)?;
@@ -122,9 +123,8 @@ fn converted_within<T: Texts>(
 /// steps from a definition or the root to a schema of it, and the places of a list that is shorter than its sizes. Notes say where the
 /// items don't take exactly what is admitted.
 /// Refused is the first fault in the order of conversion: the definitions by name, then the root, each schema before its
-/// parts. Where a schema has no fault itself, but an optional property of it states a default, the first of them is told at its place as
-/// `Unsupported` of kind `NotYet`. Then the first listed value, in the same order, that the type of its schema's other keywords doesn't read
-/// (`InvalidValue`). `Texts` comes where the judge of texts failed, at the schema that asked it, `Memory` where memory runs out or too many schemas
+/// parts. Then the first value that a schema states, in the same order, and that the type of its other keywords doesn't read (`InvalidValue`): those
+/// that it lists, and its default, which has to lie within an integer's bounds too, and may not come round to itself by fields that it leaves out. `Texts` comes where the judge of texts failed, at the schema that asked it, `Memory` where memory runs out or too many schemas
 /// stand in one another.
 pub fn converted<T: Texts>(
     alloc: Global,
@@ -137,8 +137,7 @@ pub fn converted<T: Texts>(
     ensures notes { IfOk result (λ e. e.notes.items ≡ map note_of (notes_of (T.relations texts.old) (document_seen document.now) depth most_levels)) }
     ensures faultless { OnOk result (faults_of (T.relations texts.old) (document_seen document.now) depth most_levels ≡ []) }
     ensures read { OnOk result (unread_in_document (T.relations texts.old) (document_seen document.now) depth most_levels ≡ []) }
-    ensures unstated { OnOk result (stated_in_document (T.relations texts.old) (document_seen document.now) depth most_levels ≡ []) }
-    ensures built { OnOk result ((emission_of (T.relations texts.old) (document_seen document.now) depth most_levels).conversions.defaults ≡ []) }
+    ensures sound { OnOk result (defaults_are_sound (models_of (plan_of (T.relations texts.old) (document_seen document.now) depth most_levels)) (emission_of (T.relations texts.old) (document_seen document.now) depth most_levels).conversions (T.relations texts.old) ≡ true) }
     ensures refused { IfErr result (λ f. IsRefusal (T.relations texts.old) (document_seen document.now) depth most_levels (T.faults texts.old) (T.faults texts.new) (fault_view f)) }
     ensures keeps { T.relations texts.new ≡ T.relations texts.old }
     ensures counts { T.faults texts.old ≤ T.faults texts.new }

@@ -24,7 +24,6 @@ use Rattle.typify_convert.specs.Levels.{most_levels}
 use Rattle.typify_convert.proofs.Firsts.{first_is_one}
 use Rattle.typify_convert.specs.Unread.{unread_in_document}
 use Rattle.typify_convert.proofs.Roots.{root_place}
-use Rattle.stated_walks.specs.Stated.{stated_in_document}
 use Rattle.typify_convert.specs.Refused as convert
 use Rattle.typify_run.specs.Verdicts.{IsUnjudged}
 use Rattle.typify_run.specs.Examine.{IsCause, IsRefusal, IsUnreported, is_none_of, is_converted, is_examined}
@@ -121,24 +120,18 @@ not_one : {A : Type 0} (x : A) (xs ys : List A) → ys ≡ [] → ys ≡ x ∷ x
 not_one x xs ys h e = absurd (cc)
 
 module _ (r : Relations) (n : ℕ) (d : Document) (e : is_converted r n (Some d) ≡ true) where
-  abbrev rest_of : Bool
-  rest_of = is_none_of (stated_in_document r d n most_levels) && is_none_of (unread_in_document r d n most_levels)
-
-  rest_converted : rest_of ≡ true
-  rest_converted = (both_true (is_none_of (faults_of r d n most_levels)) rest_of e).1
+  both_none : (is_none_of (faults_of r d n most_levels) ≡ true) × (is_none_of (unread_in_document r d n most_levels) ≡ true)
+  both_none = both_true (is_none_of (faults_of r d n most_levels)) (is_none_of (unread_in_document r d n most_levels)) e
 
   no_faults : faults_of r d n most_levels ≡ []
-  no_faults = none_listed (faults_of r d n most_levels) (both_true (is_none_of (faults_of r d n most_levels)) rest_of e).0
-
-  none_stated : stated_in_document r d n most_levels ≡ []
-  none_stated = none_listed (stated_in_document r d n most_levels) (both_true (is_none_of (stated_in_document r d n most_levels)) (is_none_of (unread_in_document r d n most_levels)) rest_converted).0
+  no_faults = none_listed (faults_of r d n most_levels) both_none.0
 
   none_unread : unread_in_document r d n most_levels ≡ []
-  none_unread = none_listed (unread_in_document r d n most_levels) (both_true (is_none_of (stated_in_document r d n most_levels)) (is_none_of (unread_in_document r d n most_levels)) rest_converted).1
+  none_unread = none_listed (unread_in_document r d n most_levels) both_none.1
 
 converted_has_none : (r : Relations) (n : ℕ) (d : Document) (f : FaultD) → is_converted r n (Some d) ≡ true → convert.IsCause r d n most_levels f → ⊥
-converted_has_none r n d f e (inl h) = first_is_one r d n most_levels f h (no_faults r n d e) (none_stated r n d e)
-converted_has_none r n d f e (inr (h, s, u)) = not_one u.0 u.1 (unread_in_document r d n most_levels) (none_unread r n d e) u.2
+converted_has_none r n d f e (inl h) = first_is_one r d n most_levels f h (no_faults r n d e)
+converted_has_none r n d f e (inr (h, u)) = not_one u.0 u.1 (unread_in_document r d n most_levels) (none_unread r n d e) u.2
 
 pub no_cause : (setting : Setting) (r : Relations) (n : ℕ) (schema : Value) (ds : List Data) (f : FaultD) → is_examined setting r n schema ds ≡ true → IsAccepted schema → IsCause setting r n schema ds f → ⊥
 no_cause setting r n schema ds f e a (inl h) = no_wide ds f (both_true (are_i64 ds) (is_converted r n (document_of setting schema)) e).0 h
@@ -147,12 +140,11 @@ no_cause setting r n schema ds f e a (inr (h, inr (d, read, k))) =
     converted_has_none r n d f (sym (ap (is_converted r n) read.read) ∙ (both_true (are_i64 ds) (is_converted r n (document_of setting schema)) e).1) k
 
 -- what is converted is examined
-pub examined_so : (setting : Setting) (r : Relations) (n : ℕ) (schema : Value) (ds : List Data) (d : Document) → are_i64 ds ≡ true → IsReadAs setting schema d → faults_of r d n most_levels ≡ [] → stated_in_document r d n most_levels ≡ []
+pub examined_so : (setting : Setting) (r : Relations) (n : ℕ) (schema : Value) (ds : List Data) (d : Document) → are_i64 ds ≡ true → IsReadAs setting schema d → faults_of r d n most_levels ≡ []
     → unread_in_document r d n most_levels ≡ [] → is_examined setting r n schema ds ≡ true
-examined_so setting r n schema ds d i read none unstated listed =
+examined_so setting r n schema ds d i read none all =
     ap (λ (b : Bool). both b (is_converted r n (document_of setting schema))) i ∙ ap (is_converted r n) read.read
-    ∙ ap (λ (b : Bool). both b (both (is_none_of (stated_in_document r d n most_levels)) (is_none_of (unread_in_document r d n most_levels)))) (ap is_none_of none)
-    ∙ ap (λ (b : Bool). both b (is_none_of (unread_in_document r d n most_levels))) (ap is_none_of unstated) ∙ ap is_none_of listed
+    ∙ ap (λ (b : Bool). both b (is_none_of (unread_in_document r d n most_levels))) (ap is_none_of none) ∙ ap is_none_of all
   where
     both : Bool → Bool → Bool
     both a b = a && b

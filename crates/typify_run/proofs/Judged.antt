@@ -13,7 +13,7 @@ use Rattle.model_defs.specs.Settled.{settled}
 use Rattle.model_defs.specs.Reach.{NoneReachesItself}
 use Rattle.reading_defs.specs.Proper.{has_json_numbers}
 use Rattle.schema_tree.specs.Numbers.{are_i64, holds_i64_alone}
-use Rattle.derive_model.specs.Judging.{IsVerdict}
+use Rattle.derive_model.specs.Judging.{AreSound, IsVerdict}
 use Rattle.derive_model.specs.VerdictView.{VerdictD, taken, refused}
 use Rattle.typify_run.specs.Verdicts.{AreVerdicts}
 use Rattle.typify_run.specs.Headline.{IsJudged, AreJudged}

@@ -10,6 +10,7 @@ use Rattle.schema_defs.specs.Schema.{Document}
 use Rattle.attr_defs.specs.Texts.{lexed}
 use Rattle.container_defs.specs.Model.{diagnostics_of}
 use Rattle.model_defs.specs.Types.{type_of}
+use Rattle.model_defs.specs.Model.{ContainerModel}
 use Rattle.model_defs.specs.Reach.{NoneReachesItself}
 use Rattle.model_defs.specs.Reads.{reads}
 use Rattle.reading_defs.specs.Proper.{has_json_numbers}
@@ -35,7 +36,7 @@ use Rattle.merged_documents.proofs.Composed.{documents_mean_items}
 use Rattle.derive_model.specs.VerdictView.{verdict_view}
 use Rattle.typify_convert.specs.Note.{way_of, note_of}
 use Rattle.typify_convert.specs.Emitted.{emission_of}
-use Rattle.stated_walks.proofs.Unstated.{unstated_documents}
+use Rattle.reading_defs.specs.Laws.{defaults_are_sound}
 use Rattle.typify_run.specs.Headline as headline
 use Rattle.typify_run.specs.Headline.{Deriving, read_of, items_of, HasNone, IsNarrowed, IsWidened, report_reads, document_admits, IsReportOf}
 use Rattle.typify_run.specs.Page.{ArePrintable}
@@ -85,6 +86,21 @@ both_ways true b h k = h refl
 both_ways false true h k = sym (k refl)
 both_ways false false h k = refl
 
+-- ---- what is emitted, read back
+
+module _ (r : Relations) (d : Document) (depth : ℕ) (w : WasRead d) where
+  -- however the items are read, their containers are those that are meant
+  pub emitted_models : (how : Deriving) → read_of how (emission_of r d depth most_levels).items ≡ models_of (plan_of r d depth most_levels)
+  emitted_models how =
+      let plan = plan_of r d depth most_levels in
+      items_are_read functions_are_read types_are_read_again how.variant_name how.field_name how.private how.derive plan (read_plans_are_emittable r d depth most_levels w) (root_of plan)
+
+  pub sound_read : (how : Deriving) (e : Emission) → e ≡ emission_of r d depth most_levels → defaults_are_sound (models_of (plan_of r d depth most_levels)) (emission_of r d depth most_levels).conversions r ≡ true
+      → defaults_are_sound (read_of how e.items) e.conversions r ≡ true
+  sound_read how e is h =
+      ap (λ (k : Emission). defaults_are_sound (read_of how k.items) k.conversions r) is
+      ∙ ap (λ (ms : List ContainerModel). defaults_are_sound ms (emission_of r d depth most_levels).conversions r) (emitted_models how) ∙ h
+
 -- ---- a report
 
 module _ (r : Relations) (d : Document) (depth : ℕ) (values : List Data) (report : Report) (w : WasRead d) (h : IsMadeOf r d depth values report) where
@@ -99,9 +115,7 @@ module _ (r : Relations) (d : Document) (depth : ℕ) (values : List Data) (repo
 
   -- however the items are read, their containers are those that are meant
   same_models : (how : Deriving) → headline.models_of how report ≡ models_of plan
-  same_models how =
-      ap (λ (k : Emission). read_of how k.items) h.emission
-      ∙ items_are_read functions_are_read types_are_read_again how.variant_name how.field_name how.private how.derive plan emittable (root_of plan)
+  same_models how = ap (λ (k : Emission). read_of how k.items) h.emission ∙ emitted_models r d depth w how
 
   ends : NoneReachesItself (read_of as_it_stands (items_of report))
   ends = subst NoneReachesItself (sym (same_models as_it_stands)) (acyclic plan emittable.sound.acyclic)
@@ -135,17 +149,14 @@ module _ (r : Relations) (d : Document) (depth : ℕ) (values : List Data) (repo
         (keeps lawful narrowed (free_of_none narrowed told_notes (noteless e)) how v s) (keeps lawful widened (free_of_none widened told_notes (noteless e)) how v s);
     not_narrower = λ lawful n how v s. keeps lawful narrowed (free_narrowed told_notes (subst (HasNone IsNarrowed) h.notes n)) how v s;
     not_wider = λ lawful n how v s. keeps lawful widened (free_widened told_notes (subst (HasNone IsWidened) h.notes n)) how v s;
+    sound = λ how.
+        ap (λ (ms : List ContainerModel). defaults_are_sound ms (conversions_view report.conversions) r) (same_models how ∙ sym (same_models as_it_stands)) ∙ h.sound.sound;
     verdicts = λ how.
         judged_alike (read_of as_it_stands (items_of report)) (headline.models_of how report) (conversions_view report.conversions) r (headline.root_of report) (headline.root_of report) values (map verdict_view report.verdicts.items)
         ends (same_models how ∙ sym (same_models as_it_stands)) refl h.verdicts;
   }
 
-  undefaulted : (conversions_view report.conversions).defaults ≡ []
-  undefaulted =
-      ap (λ (k : Emission). k.conversions.defaults) h.emission
-      ∙ unstated_documents r d depth most_levels (root_of plan) h.faultless h.unstated
-
   pub all_printable : are_i64 values ≡ true → ArePrintable (map verdict_view report.verdicts.items)
   all_printable i =
       printable (read_of as_it_stands (items_of report)) (conversions_view report.conversions) r (headline.root_of report) values (map verdict_view report.verdicts.items)
-      ends (ap (list_all has_json_numbers) undefaulted) i h.verdicts
+      ends h.sound.numbers i h.verdicts

@@ -14,7 +14,7 @@ use Rattle.typify_convert.specs.Levels.{most_levels}
 use Rattle.typify_convert.specs.Note.{note_of}
 use Rattle.typify_convert.specs.Emitted.{emission_of}
 use Rattle.typify_convert.specs.Unread.{unread_in_document}
-use Rattle.stated_walks.specs.Stated.{stated_in_document}
+use Rattle.derive_model.specs.Judging.{AreSound}
 use Rattle.typify_convert.specs.Refused as convert
 use Rattle.schema_tree.specs.Conversions.{conversions_view}
 use Rattle.attr_parts.specs.declared.derive.Derive.TheVariants.{Deserialize}
@@ -28,11 +28,10 @@ abbrev pub is_none_of : {A : Type 0} → List A → Bool
 is_none_of [] = true
 is_none_of (x ∷ xs) = false
 
--- no schema of the document has a fault, none states a default at an optional property, which would have to be checked, and each listed value is read by the type of its schema's other
--- keywords
+-- no schema of the document has a fault, and each value that one states, listed or as its default, is read
 abbrev pub is_converted : Relations → ℕ → Option Document → Bool
 is_converted r depth None = false
-is_converted r depth (Some d) = is_none_of (faults_of r d depth most_levels) && (is_none_of (stated_in_document r d depth most_levels) && is_none_of (unread_in_document r d depth most_levels))
+is_converted r depth (Some d) = is_none_of (faults_of r d depth most_levels) && is_none_of (unread_in_document r d depth most_levels)
 
 -- the values' numbers are i64, and the schema is a document, under the setting, that is converted
 abbrev pub is_examined : Setting → Relations → ℕ → Value → List Data → Bool
@@ -65,8 +64,8 @@ pub record IsMadeOf (r : Relations) (d : Document) (depth : ℕ) (values : List 
   pub emission : emission_in report ≡ emission_of r d depth most_levels
   pub notes : report.notes.items ≡ map note_of (notes_of r d depth most_levels)
   pub faultless : faults_of r d depth most_levels ≡ []
-  pub listed : unread_in_document r d depth most_levels ≡ []
-  pub unstated : stated_in_document r d depth most_levels ≡ []
+  pub read : unread_in_document r d depth most_levels ≡ []
+  pub sound : AreSound (read_of as_it_stands (items_of report)) (conversions_view report.conversions) r
   pub verdicts : AreVerdicts (read_of as_it_stands (items_of report)) (conversions_view report.conversions) r (root_of report) values (map verdict_view report.verdicts.items)
 
 -- why there is no report of a document that was read: why it isn't converted, or the judge of texts failed at a value, which is told at the root
@@ -74,12 +73,11 @@ abbrev pub IsUnreported : Relations → Document → ℕ → ℕ → ℕ → Fau
 IsUnreported r d depth before after f = convert.IsRefusal r d depth most_levels before after f
 
 -- The report is of what is emitted for the document that the schema is under the setting: the items, the table of conversions and the root's type are the emission of the
--- table of its entries, and the notes are its notes, in their order. Its schemas have no fault and state no default at an optional property, which would have to be checked, and each listed value is read.
+-- table of its entries, and the notes are its notes, in their order. Its schemas have no fault, and each value that they state is read.
 pub record IsEmission (setting : Setting) (r : Relations) (depth : ℕ) (schema : Value) (report : Report) : Type 0 where
   pub document : Document
   pub is_read : IsReadAs setting schema document
   pub emission : emission_in report ≡ emission_of r document depth most_levels
   pub notes : report.notes.items ≡ map note_of (notes_of r document depth most_levels)
   pub faultless : faults_of r document depth most_levels ≡ []
-  pub listed : unread_in_document r document depth most_levels ≡ []
-  pub unstated : stated_in_document r document depth most_levels ≡ []
+  pub read : unread_in_document r document depth most_levels ≡ []

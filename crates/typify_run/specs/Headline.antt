@@ -23,6 +23,7 @@ use Rattle.model_defs.specs.Model.{ContainerModel}
 use Rattle.model_defs.specs.Reads.{reads}
 use Rattle.model_defs.specs.Refusals.{refused_at}
 use Rattle.model_defs.specs.Settled.{settled}
+use Rattle.reading_defs.specs.Laws.{defaults_are_sound}
 use Rattle.schema_tree.specs.Conversions.{conversions_view}
 use Rattle.emit_defs.specs.Emission.{Emission}
 use Rattle.derive_model.specs.VerdictView.{VerdictD, taken, refused, verdict_view}
@@ -106,5 +107,7 @@ pub record IsReportOf (setting : Setting) (texts : Relations) (schema : Value) (
   -- without a note that they are narrower, they read each that is admitted; without one that they are wider, those alone
   pub not_narrower : IsLawful texts → HasNone IsNarrowed r.notes.items → (how : Deriving) (v : Value) → IsSmall v → document_admits texts document v ≡ true → report_reads texts r how v ≡ true
   pub not_wider : IsLawful texts → HasNone IsWidened r.notes.items → (how : Deriving) (v : Value) → IsSmall v → report_reads texts r how v ≡ true → document_admits texts document v ≡ true
+  -- each default that the items state is sound: the type of its field reads it, and what it leaves out comes to an end
+  pub sound : (how : Deriving) → defaults_are_sound (models_of how r) (conversions_view r.conversions) texts ≡ true
   -- the verdicts are those of the containers
   pub verdicts : (how : Deriving) → AreJudged (report_reads texts r how) (report_settles texts r how) (report_refuses texts r how) values (map verdict_view r.verdicts.items)

@@ -10,13 +10,15 @@ ghost use Rattle.schema_tree.specs.Document.{IsAccepted, view as document_seen};
 ghost use Rattle.schema_tree.specs.Fault.{fault_view};
 ghost use Rattle.schema_tree.specs.Numbers.{are_i64};
 ghost use Rattle.document_laws.specs.Laws.{WasRead};
+ghost use Rattle.reading_defs.specs.Laws.{defaults_are_sound};
+ghost use Rattle.derive_model.specs.Judging.{AreSound};
 ghost use Rattle.typify_run.specs.Verdicts.{AreVerdicts, IsUnjudged};
 ghost use Rattle.typify_run.specs.Examine.{as_it_stands, IsEmission, IsMadeOf, IsRefusal, IsUnreported, is_examined};
 ghost use Rattle.typify_run.specs.Headline.{IsReportOf, read_of};
 ghost use Rattle.typify_run.specs.Page.{ArePrintable};
 ghost use Rattle.derive_model.specs.VerdictView.{verdict_view};
 
-use crate::judging::verdicts;
+use crate::judging::{check_numbers, verdicts};
 use crate::report::Report;
 use attr_parts::NoCase;
 use derive_model::{Module, Verdict};
@@ -27,7 +29,7 @@ use std::alloc::Global;
 use syntax_trees::{DeriveInput, Ty};
 use typify_convert::converted;
 
-// The verdicts by items without stated defaults.
+// The verdicts by items, whose stated defaults are sound.
 fn judged<T: Texts>(
     alloc: Global,
     items: &[DeriveInput],
@@ -36,8 +38,9 @@ fn judged<T: Texts>(
     values: &[Value],
     texts: &mut T,
 ) -> Result<Vec<Verdict>, Fault>
-    requires plain { (conversions_view conversions.now).defaults ≡ [] }
     requires numbers { are_i64 (map view values.now) ≡ true }
+    requires sound { defaults_are_sound (read_of as_it_stands (map item_view items.now)) (conversions_view conversions.now) (T.relations texts.old) ≡ true }
+    ensures sound { OnOk result (AreSound (read_of as_it_stands (map item_view items.now)) (conversions_view conversions.now) (T.relations texts.old)) }
     ensures verdicts { IfOk result (λ v. AreVerdicts (read_of as_it_stands (map item_view items.now)) (conversions_view conversions.now) (T.relations texts.old) (type_of (ty root.now)) (map view values.now) (map verdict_view v.items)) }
     ensures refused { IfErr result (λ f. IsUnjudged (T.faults texts.old) (T.faults texts.new) (fault_view f)) }
     ensures keeps { T.relations texts.new ≡ T.relations texts.old }
@@ -45,6 +48,7 @@ fn judged<T: Texts>(
 {
     match Module::new(alloc, items, conversions, &NoCase) {
         Ok(models) => {
+            check_numbers(&models)?;
             let verdicts = verdicts(alloc, &models, root, values, texts)?;
             Ok(verdicts)
         }
@@ -110,8 +114,8 @@ pub fn examine<T: Texts>(
 /// The items that stand for a schema document, the notes, and a verdict for each value, in order. `depth` bounds the steps from a definition
 /// or the root to a schema of it. Under the setting `NullAbsent` null may stand for the absence of a property that isn't required; under `Strict`
 /// it is a value as any other. Refused are a number of a value that isn't an i64 (`ValueNumber`), then the faults of `Document::read`, which don't
-/// depend on the setting, then those of `converted`: the first in the order of conversion, among them the first optional property that states a
-/// default, which isn't checked yet (`Unsupported` of kind `NotYet`), and then the first listed value that its type doesn't read (`InvalidValue`).
+/// depend on the setting, then those of `converted`: the first in the order of conversion, and then the first value that a schema states, listed or as
+/// its default, and that isn't read (`InvalidValue`).
 /// `Texts` comes where the judge of texts failed: at the schema that asked it, or at the root where it failed at a value. Fails with `Memory`
 /// where memory runs out.
 #[tactic(auto, using(crate::proofs::Causes::wide_refused, crate::proofs::Causes::unread_refused, crate::proofs::Causes::unreported_refused))]

@@ -6,6 +6,8 @@ ghost use Rattle.json_value.specs.View.{value_of};
 ghost use Rattle.model_defs.specs.Types.{type_of};
 ghost use Rattle.schema_tree.specs.Fault.{fault_view, memory};
 ghost use Rattle.schema_tree.specs.Numbers.{holds_i64_alone, are_i64};
+ghost use Rattle.std.specs.List.{list_all};
+ghost use Rattle.reading_defs.specs.Proper.{has_json_numbers};
 ghost use Rattle.derive_model.specs.Judging.{AreSound, IsVerdict};
 ghost use Rattle.derive_model.specs.ModuleView.{models_in, conversions_in};
 ghost use Rattle.derive_model.specs.VerdictView.{verdict_view};
@@ -50,6 +52,19 @@ fn push_verdict(verdicts: &mut Vec<Verdict>, told: Verdict) -> Result<(), Fault>
     match verdicts.push(told) {
         Ok(()) => Ok(()),
         Err(_) => Err(Fault::Memory),
+    }
+}
+
+/// Fails where a stated default has a number that no JSON value has. No document that was read has one, though no clause says so, and want
+/// of memory is the answer.
+pub(crate) fn check_numbers(models: &Module<'_>) -> Result<(), Fault>
+    ensures numbers { OnOk result (list_all has_json_numbers (conversions_in models.now).defaults ≡ true) }
+    ensures memory { IfErr result (λ f. fault_view f ≡ memory) }
+{
+    if models.has_json_numbers() {
+        Ok(())
+    } else {
+        Err(Fault::Memory)
     }
 }
 

@@ -1,5 +1,5 @@
 use Rattle.std.specs.Prelude.{None, Some, is_some}
-use Rattle.std.proofs.Common.{◌≡◌, List, [], ◌∷◌, ◌++◌, ◌-◌, ◌+◌, ◌*◌, ◌<◌, map, true, refl, sym, ap, ◌∙◌, subst, arith, rules, option_map}
+use Rattle.std.proofs.Common.{◌≡◌, List, [], ◌∷◌, ◌++◌, ◌-◌, ◌+◌, ◌*◌, ◌<◌, map, refl, sym, ap, ◌∙◌, subst, arith, rules, option_map}
 use Rattle.schema_defs.specs.Texts.{Relations}
 use Rattle.schema_types.specs.View.{schema_view}
 use Rattle.schema_tree.specs.Document.{view as document_seen}
@@ -137,10 +137,10 @@ convert_plain-returns-clause-told g t c =
     let row = c.args.finding.now.row in
     let ms = map branch_view c.args.finding.now.branches.items in
     told_here r d c.args.scope.now.depth c.args.levels o s (finding_view r c.args.finding.now) (c.requires.finding r) c.requires.walk (c.requires.plain r)
-    (c.in_ok-checked.ensures.fine d) c.in_ok-checked.ensures.unstated (c.in_ok-checked.ensures.branches r d h)
+    (c.in_ok-checked.ensures.fine d) (c.in_ok-checked.ensures.branches r d h)
     (kept_view c.args.kept.now) (kept_view c.checked.new.kept) (kept_view c.convert_row.new.kept) (tree_view c.in_ok-tree.tree)
     (c.in_ok-checked.ensures.notes h) c.in_ok-checked.ensures.values c.in_ok-checked.ensures.merges (convert_plain-returns-clause-entry g t c)
-    (subst (λ (r : Relations). IsToldOf r d c.args.scope.now.depth c.args.levels o.path (row_view r row) (tree_view c.in_ok-tree.tree) (all_nodes r d c.args.scope.now.depth c.args.levels o ms (row_parts (row_view r row))) (kept_view c.checked.new.kept) (kept_view c.convert_row.new.kept))
+    (subst (λ (r : Relations). IsToldOf r d c.args.scope.now.depth c.args.levels o.path s (row_view r row) (tree_view c.in_ok-tree.tree) (all_nodes r d c.args.scope.now.depth c.args.levels o ms (row_parts (row_view r row))) (kept_view c.checked.new.kept) (kept_view c.convert_row.new.kept))
     c.in_ok-checked.ensures.keeps c.in_ok-tree.ensures.told)
 
 pub convert_plain-returns-in_err-checked-clause-refused : goal.convert_plain-returns-in_err-checked-clause-refused
@@ -161,7 +161,7 @@ convert_plain-returns-in_err-tree-clause-refused g t c =
     if_err c.from_residual-in_err-tree.result c.in_err-tree.field-0.0 _ c.from_residual-in_err-tree.ensures.1
     (refuses_from r d c.args.scope.now.depth c.args.levels _ _ _ _ _ c.in_ok-checked.ensures.counts
     (parts_here r d c.args.scope.now.depth c.args.levels o s (finding_view r c.args.finding.now) (c.requires.finding r) c.requires.walk (c.requires.plain r)
-    (c.in_ok-checked.ensures.fine d) c.in_ok-checked.ensures.unstated (c.in_ok-checked.ensures.branches r d h) _ _ _
+    (c.in_ok-checked.ensures.fine d) (c.in_ok-checked.ensures.branches r d h) _ _ _
     (subst (λ (r : Relations). RefusesOf r d c.args.scope.now.depth c.args.levels o.path (g.T.Texts.faults c.checked.new.texts) (g.T.Texts.faults c.convert_row.new.texts) (all_nodes r d c.args.scope.now.depth c.args.levels o ms (row_parts (row_view r row))) (fault_view c.in_err-tree.field-0.0))
     c.in_ok-checked.ensures.keeps c.in_err-tree.ensures.refused)))
 
@@ -195,7 +195,7 @@ convert_row-returns-clause-told g t c =
     let h = option_map (λ n. n.now) c.args.handed in
     let o = spot_of c.args.scope.now.start.now c.args.trail.now.items h in
     let ms = map branch_view c.args.finding.now.branches.items in
-    told_of_row r d c.args.scope.now.depth c.args.levels (path_by c.args.scope.now.start.now c.args.trail.now.items) c.args.finding.now.row (tree_view c.in_ok-tree.tree) _
+    told_of_row r d c.args.scope.now.depth c.args.levels (path_by c.args.scope.now.start.now c.args.trail.now.items) (source_view c.args.source.now) c.args.finding.now.row (tree_view c.in_ok-tree.tree) _
     (kept_view c.args.kept.now) (kept_view c.convert_parts.new.kept) (kept_view c.finished.new.kept) (g.T.Texts.relations c.convert_parts.new.texts) c.is_some-had.result
     c.in_ok-trees.ensures.keeps (had_seen c.args.kept.now.values.unread c.is_some-had.result c.is_some-had.ensures)
     (subst (λ (ps : List Part). IsTold r d c.args.scope.now.depth c.args.levels (all_nodes r d c.args.scope.now.depth c.args.levels o ms ps) (kept_view c.args.kept.now) (kept_view c.convert_parts.new.kept))
@@ -348,8 +348,8 @@ convert_part-returns-in_err-tree-clause-refused g t c =
 
 -- ---- a row that merges
 
-pub convert_merged-convert_standing-requires : goal.convert_merged-convert_standing-requires
-convert_merged-convert_standing-requires g t c =
+pub convert_merged-convert_in_place-requires : goal.convert_merged-convert_in_place-requires
+convert_merged-convert_in_place-requires g t c =
     let r = g.T.Texts.relations c.args.texts.now in
     let d = document_seen c.args.scope.now.document.now in
     let most = c.args.scope.now.depth in
@@ -366,7 +366,7 @@ convert_merged-convert_standing-requires g t c =
     let name_is = c.name_of_standing-name.ensures in
     let left = c.in_ok-keep_merge_notes-in-Stands.ensures.merges ∙ c.in_ok-keep_notes-in-Stands.ensures.merges in
     let e : c.args.levels * 10 + 6 ≡ t = c.decreases in
-    let k : c.args.levels * 10 + 3 < t = omega (arith, e) in
+    let k : c.args.levels * 10 + 5 < t = omega (arith, e) in
     let inner_first : Begins (kept_view c.keep_merge_notes.new.kept).merges (merges_in (tree_at r d most n (spot_of c.in-Stands.standing.start [] (option_map (λ n. n.now) c.name_of_standing-name.result)) u.schema)) =
     subst (λ t. t) (λ i. Begins (sym left i) (merges_in (tree_at r d most n (spot_of c.in-Stands.standing.start [] (sym name_is i)) u.schema)))
     (standing_begins r d most n o s m ns u here (kept_view c.next_merge.new.kept).merges next.behind) in
@@ -408,13 +408,13 @@ convert_merged-returns-in_ok-tree-in-Stands-clause-told g t c =
     let here : stands ns (Some u) ≡ merge_of_row o s m.outcome = ap (λ e. end_view e ns) (sym c.in-Stands.is) ∙ next.here in
     let name_is = c.name_of_standing-name.ensures in
     let k = kept_view c.keep_merge_notes.new.kept in
-    let l = kept_view c.convert_standing.new.kept in
+    let l = kept_view c.convert_in_place.new.kept in
     let left = c.in_ok-keep_merge_notes-in-Stands.ensures.merges ∙ c.in_ok-keep_notes-in-Stands.ensures.merges in
-    standing_told r d most n o s m ns u here fd (kept_view c.args.kept.now) k l (c.requires.finding r)
+    standing_told r d most n o s m ns u here fd (tree_view c.in_ok-tree-in-Stands.tree) (kept_view c.args.kept.now) k l (c.requires.finding r) (convert_merged-returns-in_ok-tree-in-Stands-clause-entry g t c)
     (c.in_ok-keep_merge_notes-in-Stands.ensures.notes h ∙ ap (λ ks. ks ++ map (merge_note o) ns) (c.in_ok-keep_notes-in-Stands.ensures.notes h ∙ ap (λ ks. ks ++ map (placed_note o fd.branches) fd.notes) c.in_ok-merge.ensures.notes))
     (c.in_ok-keep_merge_notes-in-Stands.ensures.values ∙ c.in_ok-keep_notes-in-Stands.ensures.values ∙ c.in_ok-merge.ensures.values)
     (c.in_ok-merge.ensures.next ∙ (λ i. end_view (c.in-Stands.is i) ns ∷ sym left i))
-    (subst (λ (h : Handed). IsTold r d most n (tree_at r d most n (spot_of c.in-Stands.standing.start [] h) u.schema) k l) name_is c.in_ok-tree-in-Stands.ensures.told)
+    (subst (λ (h : Handed). IsToldOf r d most n o.path s fd.row (tree_view c.in_ok-tree-in-Stands.tree) (tree_at r d most n (spot_of c.in-Stands.standing.start [] h) u.schema) k l) name_is c.in_ok-tree-in-Stands.ensures.told)
 
 pub convert_merged-returns-in_err-keep_notes-in-Stands-clause-refused : goal.convert_merged-returns-in_err-keep_notes-in-Stands-clause-refused
 convert_merged-returns-in_err-keep_notes-in-Stands-clause-refused g t c =
@@ -442,7 +442,7 @@ convert_merged-returns-in_err-tree-in-Stands-clause-refused g t c =
     let name_is = c.name_of_standing-name.ensures in
     if_err c.from_residual-in_err-tree-in-Stands.result c.in_err-tree-in-Stands.field-0.0 _ c.from_residual-in_err-tree-in-Stands.ensures.1
     (standing_refuses r d most n o s m ns u here _ _ _
-    (subst (λ (h : Handed). Refuses r d most n (g.T.Texts.faults c.args.texts.now) (g.T.Texts.faults c.convert_standing.new.texts) (tree_at r d most n (spot_of c.in-Stands.standing.start [] h) u.schema) (fault_view c.in_err-tree-in-Stands.field-0.0)) name_is c.in_err-tree-in-Stands.ensures.refused))
+    (subst (λ (h : Handed). RefusesOf r d most n o.path (g.T.Texts.faults c.args.texts.now) (g.T.Texts.faults c.convert_in_place.new.texts) (tree_at r d most n (spot_of c.in-Stands.standing.start [] h) u.schema) (fault_view c.in_err-tree-in-Stands.field-0.0)) name_is c.in_err-tree-in-Stands.ensures.refused))
 
 pub convert_merged-returns-in_err-merge-clause-refused : goal.convert_merged-returns-in_err-merge-clause-refused
 convert_merged-returns-in_err-merge-clause-refused g t c =
@@ -476,7 +476,31 @@ convert_merged-returns-in-Unsupported-clause-refused g t c =
     let next = next_is r d most n o s m (kept_view c.args.kept.now).merges (merge_view c.in_ok-merge.merge.now) (kept_view c.next_merge.new.kept).merges c.requires.begins c.in_ok-merge.ensures.next in
     merge_refuses r d most n o s m _ _ _ (c.refused_merge-in-Unsupported.ensures r d most n h s m.outcome (merge_notes_view c.in_ok-merge.merge.now.notes.items) next.here)
 
--- ---- what stands in its place
+-- ---- what stands in its place, and what the schema states itself
+
+pub convert_in_place-convert_standing-requires : goal.convert_in_place-convert_standing-requires
+convert_in_place-convert_standing-requires g t c =
+    let e : c.args.levels * 10 + 5 ≡ t = c.decreases in
+    let k : c.args.levels * 10 + 3 < t = omega (arith, e) in
+    λ κs within. (k, (within, c.requires))
+
+pub convert_in_place-returns-clause-told : goal.convert_in_place-returns-clause-told
+convert_in_place-returns-clause-told g t c =
+    let r = g.T.Texts.relations c.args.texts.now in
+    let d = document_seen c.args.scope.now.document.now in
+    told_of_row r d c.args.scope.now.depth c.args.levels (path_by c.args.scope.now.start.now c.args.trail.now.items) (source_view c.args.source.now) c.args.row.now (tree_view c.in_ok-tree.tree) _
+    (kept_view c.args.kept.now) (kept_view c.convert_standing.new.kept) (kept_view c.keep_unless.new.kept) (g.T.Texts.relations c.convert_standing.new.texts) c.is_some-had.result
+    c.in_ok-tree.ensures.keeps (had_seen c.args.kept.now.values.unread c.is_some-had.result c.is_some-had.ensures)
+    c.in_ok-tree.ensures.told c.in_ok-keep_unless.ensures.notes c.in_ok-keep_unless.ensures.merges c.in_ok-keep_unless.ensures.values
+
+pub convert_in_place-returns-in_err-tree-clause-refused : goal.convert_in_place-returns-in_err-tree-clause-refused
+convert_in_place-returns-in_err-tree-clause-refused g t c =
+    if_err c.from_residual.result c.in_err-tree.field-0.0 _ c.from_residual.ensures.1 (at_parts c.in_err-tree.ensures.refused)
+
+pub convert_in_place-returns-in_err-keep_unless-clause-refused : goal.convert_in_place-returns-in_err-keep_unless-clause-refused
+convert_in_place-returns-in_err-keep_unless-clause-refused g t c =
+    if_err c.from_residual-in_err-keep_unless.result c.in_err-keep_unless.field-0.0 _ c.from_residual-in_err-keep_unless.ensures.1
+    (at_schema (none_from _ _ _ _ _ c.in_ok-tree.ensures.counts c.in_err-keep_unless.ensures.refused))
 
 pub convert_standing-convert-requires : goal.convert_standing-convert-requires
 convert_standing-convert-requires g t c =

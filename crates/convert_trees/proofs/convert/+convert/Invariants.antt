@@ -31,6 +31,9 @@ decreases-convert_part g l = l.levels * 10 + 3
 abbrev pub decreases-convert_merged : goal.decreases-convert_merged
 decreases-convert_merged g l = l.levels * 10 + 6
 
+abbrev pub decreases-convert_in_place : goal.decreases-convert_in_place
+decreases-convert_in_place g l = l.levels * 10 + 5
+
 abbrev pub decreases-convert_standing : goal.decreases-convert_standing
 decreases-convert_standing g l = l.levels * 10 + 3
 

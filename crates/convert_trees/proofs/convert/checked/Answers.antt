@@ -3,7 +3,7 @@ use Rattle.merged_rows.specs.Starts.{spot_of}
 use Rattle.row_types.specs.Given.{source_view}
 use Rattle.row_types.specs.View.{finding_view}
 use Rattle.convert_trees.proofs.Ends.{if_err}
-use Rattle.convert_trees.proofs.Here.{branches_here, own_here, stated_here}
+use Rattle.convert_trees.proofs.Here.{branches_here, own_here}
 use Rattle.convert_trees.proofs.Telling.{want_refuses}
 use Rattle.convert_trees.proofs.convert.checked.Goals as goal
 
@@ -14,14 +14,6 @@ returns-in_err-check_own-clause-refused g c =
     if_err c.from_residual.result c.in_err-check_own.field-0.0 _ c.from_residual.ensures.1
     (λ n h e p w. own_here r d c.args.scope.now.depth n (spot_of c.args.scope.now.start.now c.args.trail.now.items h) (source_view c.args.source.now) (finding_view r c.args.finding.now) e w p _ _ _
     (c.in_err-check_own.ensures.refused d))
-
-pub returns-in_err-check_stated-clause-refused : goal.returns-in_err-check_stated-clause-refused
-returns-in_err-check_stated-clause-refused g c =
-    let r = g.T.Texts.relations c.args.texts.now in
-    let d = document_seen c.args.scope.now.document.now in
-    if_err c.from_residual-in_err-check_stated.result c.in_err-check_stated.field-0.0 _ c.from_residual-in_err-check_stated.ensures.1
-    (λ n h e p w. stated_here r d c.args.scope.now.depth n (spot_of c.args.scope.now.start.now c.args.trail.now.items h) (source_view c.args.source.now) (finding_view r c.args.finding.now) e w p _ _ _
-    (c.in_ok-check_own.ensures.fine d) (c.in_err-check_stated.ensures.told r h))
 
 pub returns-in_err-keep_notes-clause-refused : goal.returns-in_err-keep_notes-clause-refused
 returns-in_err-keep_notes-clause-refused g c =
@@ -34,4 +26,4 @@ returns-in_err-check_branches-clause-refused g c =
     let d = document_seen c.args.scope.now.document.now in
     if_err c.from_residual-in_err-check_branches.result c.in_err-check_branches.field-0.0 _ c.from_residual-in_err-check_branches.ensures.1
     (λ n h e p w. branches_here r d c.args.scope.now.depth n (spot_of c.args.scope.now.start.now c.args.trail.now.items h) (source_view c.args.source.now) (finding_view r c.args.finding.now) e w p
-    (c.in_ok-check_own.ensures.fine d) (c.in_ok-check_stated.ensures.unstated r) _ _ _ (c.in_err-check_branches.ensures.refused r d n h _ _))
+    (c.in_ok-check_own.ensures.fine d) _ _ _ (c.in_err-check_branches.ensures.refused r d n h _ _))

@@ -7,7 +7,7 @@ use Rattle.convert_walks.specs.Tree.{document_tree}
 use Rattle.row_merges.specs.Merges.{merges_in, merges_view}
 use Rattle.convert_trees.specs.Keeping.{KeptD, kept_view, unread_view}
 use Rattle.convert_trees.proofs.Ends.{if_err}
-use Rattle.convert_trees.proofs.Roots.{begins_all, is_faultless, is_unstated, all_notes, all_values, unread_whole, refuses_later}
+use Rattle.convert_trees.proofs.Roots.{begins_all, is_faultless, all_notes, all_values, unread_whole, refuses_later}
 use Rattle.convert_trees.proofs.table.table_of.Goals as goal
 
 pub table_with-requires : goal.table_with-requires
@@ -22,10 +22,6 @@ first_unread-requires g c =
 pub returns-clause-faultless : goal.returns-clause-faultless
 returns-clause-faultless g c =
     is_faultless (g.T.Texts.relations c.args.texts.now) (document_seen c.args.document.now) c.args.depth c.args.levels _ _ c.in_ok-table.ensures.told
-
-pub returns-clause-stated : goal.returns-clause-stated
-returns-clause-stated g c =
-    is_unstated (g.T.Texts.relations c.args.texts.now) (document_seen c.args.document.now) c.args.depth c.args.levels _ _ c.in_ok-table.ensures.told
 
 pub returns-clause-notes : goal.returns-clause-notes
 returns-clause-notes g c =

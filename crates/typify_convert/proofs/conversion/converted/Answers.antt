@@ -1,10 +1,12 @@
-use Rattle.std.proofs.Common.{◌≡◌, ℕ, [], map, subst}
+use Rattle.std.proofs.Common.{◌≡◌, ℕ, [], map, subst, true}
 use Rattle.std.specs.Prelude.{IfErr, IfOk, OnOk}
 use Rattle.schema_tree.specs.Document.{view as document_seen}
 use Rattle.schema_tree.specs.Fault.{fault_view}
 use Rattle.convert_walks.specs.Told.{faults_of, notes_of}
 use Rattle.convert_trees.specs.Unread.{unread_in_document}
-use Rattle.formed_plans.specs.Stated.{stated_in_document}
+use Rattle.emit_defs.specs.Emission.{models_of}
+use Rattle.reading_defs.specs.Laws.{defaults_are_sound}
+use Rattle.formed_plans.specs.Laws.{plan_of}
 use Rattle.typify_convert.specs.Emitted.{emission_of, emitted_view}
 use Rattle.typify_convert.specs.Note.{note_of}
 use Rattle.typify_convert.specs.Refused.{IsRefusal}
@@ -34,17 +36,11 @@ returns-clause-read g c =
     let d = document_seen c.args.document.now in
     subst (λ (n : ℕ). OnOk c.converted_within.result (unread_in_document r d c.args.depth n ≡ [])) c.levels-most.ensures c.converted_within.ensures.read
 
-pub returns-clause-unstated : goal.returns-clause-unstated
-returns-clause-unstated g c =
+pub returns-clause-sound : goal.returns-clause-sound
+returns-clause-sound g c =
     let r = g.T.Texts.relations c.args.texts.now in
     let d = document_seen c.args.document.now in
-    subst (λ (n : ℕ). OnOk c.converted_within.result (stated_in_document r d c.args.depth n ≡ [])) c.levels-most.ensures c.converted_within.ensures.unstated
-
-pub returns-clause-built : goal.returns-clause-built
-returns-clause-built g c =
-    let r = g.T.Texts.relations c.args.texts.now in
-    let d = document_seen c.args.document.now in
-    subst (λ (n : ℕ). OnOk c.converted_within.result ((emission_of r d c.args.depth n).conversions.defaults ≡ [])) c.levels-most.ensures c.converted_within.ensures.built
+    subst (λ (n : ℕ). OnOk c.converted_within.result (defaults_are_sound (models_of (plan_of r d c.args.depth n)) (emission_of r d c.args.depth n).conversions r ≡ true)) c.levels-most.ensures c.converted_within.ensures.sound
 
 pub returns-clause-refused : goal.returns-clause-refused
 returns-clause-refused g c =

@@ -6,7 +6,6 @@ use Rattle.naming_defs.specs.Good.{is_good_name}
 use Rattle.emit_defs.specs.Emission.{emission}
 use Rattle.schema_tree.specs.Document.{view as document_seen}
 use Rattle.space_trees.specs.Formed.{IsFormed}
-use Rattle.formed_plans.specs.Laws.{plan_of}
 use Rattle.convert_walks.specs.Told.{Note, ordered}
 use Rattle.std.proofs.Common.{List, map, option_map}
 use Rattle.convert_trees.specs.Unread.{unread_in_document}
@@ -37,12 +36,6 @@ returns-in-Ok-clause-notes g c =
     c.in-Ok.ensures.notes
     ∙ ap (λ (ns : List Note). map note_of (ordered ns)) c.in_ok-converted.ensures.notes
 
-pub returns-in-Ok-clause-built : goal.returns-in-Ok-clause-built
-returns-in-Ok-clause-built g c =
-    let r = g.T.Texts.relations c.args.texts.now in
-    let d = document_seen c.args.document.now in
-    c.unstated_documents.ensures r d c.args.depth c.args.levels (root_of (plan_of r d c.args.depth c.args.levels)) c.in_ok-converted.ensures.faultless c.in_ok-converted.ensures.stated
-
 pub returns-in-Ok-clause-read : goal.returns-in-Ok-clause-read
 returns-in-Ok-clause-read g c =
     let r = g.T.Texts.relations c.args.texts.now in
@@ -54,4 +47,11 @@ returns-in_err-check_read-clause-refused g c =
     let r = g.T.Texts.relations c.args.texts.now in
     let d = document_seen c.args.document.now in
     if_err c.from_residual-in_err-check_read.result c.in_err-check_read.field-0.0 _ c.from_residual-in_err-check_read.ensures.1
-    (unread_refused r d c.args.depth c.args.levels _ _ _ (option_map unread_view c.in_ok-converted.converted.unread) c.in_ok-converted.ensures.faultless c.in_ok-converted.ensures.stated c.in_ok-converted.ensures.unread c.in_err-check_read.ensures.told)
+    (unread_refused r d c.args.depth c.args.levels _ _ _ (option_map unread_view c.in_ok-converted.converted.unread) c.in_ok-converted.ensures.faultless c.in_ok-converted.ensures.unread c.in_err-check_read.ensures.told)
+
+pub returns-in-Ok-clause-sound : goal.returns-in-Ok-clause-sound
+returns-in-Ok-clause-sound g c =
+    let r = g.T.Texts.relations c.args.texts.now in
+    let d = document_seen c.args.document.now in
+    let read = all_read (unread_in_document r d c.args.depth c.args.levels) (sym (ap (option_map unread_view) c.in_ok-check_read.ensures.read) ∙ c.in_ok-converted.ensures.unread) in
+    c.read_defaults_are_sound.ensures r d c.args.depth c.args.levels c.requires c.in_ok-converted.ensures.faultless read

@@ -30,8 +30,7 @@ returns-clause-emission g c =
       emission = h.emission;
       notes = h.notes;
       faultless = h.faultless;
-      listed = h.listed;
-      unstated = h.unstated;
+      read = h.read;
     }
 
 pub returns-clause-printable : goal.returns-clause-printable
@@ -45,7 +44,7 @@ pub returns-clause-examined : goal.returns-clause-examined
 returns-clause-examined g c =
     let h = c.in_ok-report.ensures.report in
     examined_so c.args.setting (g.T.Texts.relations c.args.texts.now) c.args.depth (value_of (view c.args.document.now)) (map view c.args.values.now) (document_seen c.in_ok-read.read)
-    c.in_ok-check_values.ensures.fine c.in_ok-read.ensures.document h.faultless h.unstated h.listed
+    c.in_ok-check_values.ensures.fine c.in_ok-read.ensures.document h.faultless h.read
 
 pub returns-clause-accepted : goal.returns-clause-accepted
 returns-clause-accepted g c = read_strictly c.args.setting (value_of (view c.args.document.now)) (document_seen c.in_ok-read.read) c.in_ok-read.ensures.document

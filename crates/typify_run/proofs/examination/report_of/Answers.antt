@@ -1,4 +1,4 @@
-use Rattle.std.proofs.Common.{◌∙◌, List, map, ap, subst}
+use Rattle.std.proofs.Common.{◌≡◌, List, true, map, sym, subst}
 use Rattle.syntax_trees.specs.Item.{item_view}
 use Rattle.syntax_trees.specs.View.{ty}
 use Rattle.syntax_trees.specs.declared.item.DeriveInput.{DeriveInput}
@@ -8,19 +8,26 @@ use Rattle.model_defs.specs.Types.{type_of}
 use Rattle.schema_tree.specs.Conversions.{conversions_view}
 use Rattle.schema_tree.specs.Document.{view as document_seen}
 use Rattle.schema_tree.specs.Fault.{fault_view}
-use Rattle.emit_defs.specs.Emission.{Emission}
+use Rattle.reading_defs.specs.Laws.{defaults_are_sound}
+use Rattle.typify_convert.specs.Emitted.{emitted_view}
+use Rattle.derive_model.specs.Judging.{AreSound}
 use Rattle.derive_model.specs.VerdictView.{verdict_view}
 use Rattle.typify_run.specs.Headline.{read_of}
 use Rattle.typify_run.specs.Examine.{as_it_stands, IsUnreported}
 use Rattle.typify_run.specs.Verdicts.{AreVerdicts}
 use Rattle.typify_run.proofs.Causes.{told_of_fault, unjudged_refused}
+use Rattle.typify_run.proofs.Reported.{sound_read}
 use Rattle.typify_run.proofs.examination.report_of.Goals as goal
 
-pub judged-requires-clause-plain : goal.judged-requires-clause-plain
-judged-requires-clause-plain g c =
-    let r = g.T.Texts.relations c.args.texts.now in
+pub judged-requires-clause-sound : goal.judged-requires-clause-sound
+judged-requires-clause-sound g c =
+    let e = c.in_ok-emitted.emitted in
     let is = c.in_ok-emitted.ensures in
-    ap (λ (k : Emission). k.conversions.defaults) is.emission ∙ is.built
+    let r = g.T.Texts.relations c.args.texts.now in
+    let cs = conversions_view e.table in
+    subst (λ (k : Relations). defaults_are_sound (read_of as_it_stands (map item_view c.deref.result.now)) cs k ≡ true) (sym is.keeps)
+    (subst (λ (is : List DeriveInput). defaults_are_sound (read_of as_it_stands (map item_view is)) cs r ≡ true) (sym c.deref.ensures.value)
+    (sound_read r (document_seen c.args.document.now) c.args.depth c.requires.read as_it_stands (emitted_view e) is.emission is.sound))
 
 pub returns-clause-report : goal.returns-clause-report
 returns-clause-report g c =
@@ -36,8 +43,9 @@ returns-clause-report g c =
       emission = is.emission;
       notes = is.notes;
       faultless = is.faultless;
-      listed = is.read;
-      unstated = is.unstated;
+      read = is.read;
+      sound = subst (λ (is : List DeriveInput). AreSound (read_of as_it_stands (map item_view is)) cs r) c.deref.ensures.value
+          (subst (λ (k : Relations). AreSound (read_of as_it_stands (map item_view c.deref.result.now)) cs k) is.keeps c.in_ok-verdicts.ensures.sound);
       verdicts = subst (λ (is : List DeriveInput). AreVerdicts (read_of as_it_stands (map item_view is)) cs r t values verdicts) c.deref.ensures.value told;
     }
 

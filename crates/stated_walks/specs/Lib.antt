@@ -1,3 +1,0 @@
-pub mod Stated
-pub mod Laws
-pub mod Worked
