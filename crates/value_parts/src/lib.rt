@@ -31,7 +31,7 @@ pub use outcome::{
     refused_pairs, refused_several, refused_several_at, under_name, under_place,
 };
 pub use plain::read_unit;
-pub use setting::{Setting, count_defaults, with_entered};
+pub use setting::{MOST_LEVELS, Setting, count_defaults, with_entered};
 pub use slots::Slot;
 pub use sorted::Sorted;
 pub use sorting::sort;

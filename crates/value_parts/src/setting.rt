@@ -11,8 +11,12 @@ use serde_json::Value;
 use std::alloc::Global;
 use value_models::Containers;
 
-/// What reading goes by: the tables, the places of the stated defaults that were entered on the way (the last first), and
-/// how many more may be.
+/// So many levels of reading may stand in one another: parts of values, items that are entered at one value, and defaults of
+/// what is left out. Values nest 127 deep at most.
+pub const MOST_LEVELS: usize = 1000;
+
+/// What reading goes by: the tables, the places of the stated defaults that were entered on the way (the last first), how
+/// many more may be, and how many levels.
 #[derive(Clone, Copy)]
 pub struct Setting<'a> {
     pub alloc: Global,
@@ -20,6 +24,7 @@ pub struct Setting<'a> {
     pub conversions: &'a Conversions,
     pub entered: &'a [u32],
     pub more: usize,
+    pub levels: usize,
 }
 
 impl<'a> Setting<'a> {

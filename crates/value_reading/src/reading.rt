@@ -28,12 +28,12 @@ use value_models::{
     Variant, Variants,
 };
 use value_parts::{
-    Choice, Demand, Found, Member, Outcome, Setting, Slot, Sorted, as_list, as_map, as_newtype,
-    as_single, as_some, as_struct, as_unit, as_variant, as_whole, choose, count_defaults,
-    empty_value, fits, if_sound, is_absent, is_unit, kept_if, leaf_of, length_of, members_of,
-    name_value, paired, push_pair, push_typed, read_scalar, read_unit, refused_at, refused_here,
-    refused_pair_at, refused_pairs, refused_several, refused_several_at, rule_holds, short_place,
-    sort, type_at, under_name, under_place, with_entered, without_default,
+    Choice, Demand, Found, MOST_LEVELS, Member, Outcome, Setting, Slot, Sorted, as_list, as_map,
+    as_newtype, as_single, as_some, as_struct, as_unit, as_variant, as_whole, choose,
+    count_defaults, empty_value, fits, if_sound, is_absent, is_unit, kept_if, leaf_of, length_of,
+    members_of, name_value, paired, push_pair, push_typed, read_scalar, read_unit, refused_at,
+    refused_here, refused_pair_at, refused_pairs, refused_several, refused_several_at, rule_holds,
+    short_place, sort, type_at, under_name, under_place, with_entered, without_default,
 };
 
 /// What reading the value as the type gives (serde.rs/field-attrs, serde.rs/enum-representations): the typed value, or the
@@ -60,6 +60,7 @@ pub fn read<T: Texts>(
         conversions,
         entered: &entered,
         more: count_defaults(conversions),
+        levels: MOST_LEVELS,
     };
     let read = read_part(&setting, texts, ty, value)?;
     Ok(read)
@@ -84,7 +85,7 @@ fn read_part<T: Texts>(
     Ok(read)
 }
 
-// With `left` items that may still be entered at the value.
+// With `left` items that may still be entered at the value. Each way round leads through here, so that here the levels are counted.
 #[cycle(read)]
 #[tactic(auto, using(crate::proofs::Levels::absent_level, crate::proofs::Levels::present_level))]
 fn read_type<T: Texts>(
@@ -102,7 +103,18 @@ fn read_type<T: Texts>(
     if is_absent(ty, value) {
         return Ok(Outcome::Taken(Typed::None));
     }
-    let read = read_leaf(setting, texts, left, leaf_of(ty), value)?;
+    if setting.levels == 0 {
+        return Err(TextFault::Memory);
+    }
+    let inside = Setting {
+        alloc: setting.alloc,
+        containers: setting.containers,
+        conversions: setting.conversions,
+        entered: setting.entered,
+        more: setting.more,
+        levels: setting.levels - 1,
+    };
+    let read = read_leaf(&inside, texts, left, leaf_of(ty), value)?;
     let whole = as_whole(setting.alloc, ty, read)?;
     Ok(whole)
 }
@@ -838,6 +850,7 @@ pub(crate) fn read_default<T: Texts>(
         conversions: setting.conversions,
         entered: &entered,
         more: setting.more - 1,
+        levels: setting.levels,
     };
     let read = read_stated(&inside, texts, place, ty)?;
     Ok(read)

@@ -12,7 +12,7 @@ use crate::reading::read_default;
 use schema_tree::{Conversions, TextFault, Texts};
 use std::alloc::Global;
 use value_models::{Containers, Typed, ValueType};
-use value_parts::{Outcome, Setting, count_defaults};
+use value_parts::{MOST_LEVELS, Outcome, Setting, count_defaults};
 
 fn is_taken(read: &Outcome<Typed>) -> bool
     ensures { result ≡ is_taken (one_view read.now) }
@@ -46,6 +46,7 @@ pub fn reads_default<T: Texts>(
         conversions,
         entered: &entered,
         more: count_defaults(conversions),
+        levels: MOST_LEVELS,
     };
     let read = read_default(&setting, texts, place, ty)?;
     Ok(is_taken(&read))
