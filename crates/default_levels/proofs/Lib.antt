@@ -1,0 +1,4 @@
+pub mod Pairs
+pub mod Local
+pub mod Endless
+pub mod Enough
