@@ -29,9 +29,12 @@ use serde_json::value::Map;
 use std::alloc::Global;
 use std::collections::BTreeMap;
 
+// So many schemas may be asked inside one another. Values nest 127 deep at most.
+const MOST_LEVELS: usize = 1000;
+
 /// Whether the document admits the value (JSON Schema Draft 7): the value against the root, where as many references are
-/// followed at one value as the document has definitions, and one more. It fails where memory runs out, or where the
-/// judge of texts failed, whose count of failures then rose.
+/// followed at one value as the document has definitions, and one more. It fails where memory runs out or too many schemas
+/// are asked inside one another, or where the judge of texts failed, whose count of failures then rose.
 pub fn admits<T: Texts>(
     alloc: Global,
     document: &Document,
@@ -43,7 +46,7 @@ pub fn admits<T: Texts>(
     ensures failed { IsErrOf result TextFault.Failed → Rises (T.faults texts.old) (T.faults texts.new) }
     ensures counts { T.faults texts.old ≤ T.faults texts.new }
 {
-    let admitted = admits_part(alloc, document, texts, document.root(), value)?;
+    let admitted = admits_part(alloc, document, MOST_LEVELS, texts, document.root(), value)?;
     Ok(admitted)
 }
 
@@ -52,6 +55,7 @@ pub fn admits<T: Texts>(
 fn admits_part<T: Texts>(
     alloc: Global,
     document: &Document,
+    levels: usize,
     texts: &mut T,
     schema: &Schema,
     value: &Value,
@@ -63,15 +67,16 @@ fn admits_part<T: Texts>(
     ensures counts { T.faults texts.old ≤ T.faults texts.new }
 {
     let left = allowed(alloc, document)?;
-    let admitted = judge(alloc, document, left, texts, schema, value)?;
+    let admitted = judge(alloc, document, levels, left, texts, schema, value)?;
     Ok(admitted)
 }
 
-// With `left` references still allowed at the value.
+// With `left` references still allowed at the value. Each way round leads through here, so that here the levels are counted.
 #[cycle(judge)]
 fn judge<T: Texts>(
     alloc: Global,
     document: &Document,
+    levels: usize,
     left: usize,
     texts: &mut T,
     schema: &Schema,
@@ -84,10 +89,13 @@ fn judge<T: Texts>(
     ensures failed { IsErrOf result TextFault.Failed → Rises (T.faults texts.old) (T.faults texts.new) }
     ensures counts { T.faults texts.old ≤ T.faults texts.new }
 {
+    if levels == 0 {
+        return Err(TextFault::Memory);
+    }
     match schema {
         Schema::Bool(admitted) => Ok(*admitted),
         Schema::Object(object) => {
-            let admitted = judge_object(alloc, document, left, texts, object, value)?;
+            let admitted = judge_object(alloc, document, levels - 1, left, texts, object, value)?;
             Ok(admitted)
         }
     }
@@ -97,6 +105,7 @@ fn judge<T: Texts>(
 fn judge_object<T: Texts>(
     alloc: Global,
     document: &Document,
+    levels: usize,
     left: usize,
     texts: &mut T,
     object: &SchemaObject,
@@ -110,9 +119,33 @@ fn judge_object<T: Texts>(
     ensures counts { T.faults texts.old ≤ T.faults texts.new }
 {
     let plain = plain_agrees(texts, object, value)?;
-    let reference = follow(alloc, document, left, texts, &object.reference, value)?;
-    let parts = parts_agree(alloc, document, texts, &object.array, &object.object, value)?;
-    let same = judge_same(alloc, document, left, texts, &object.subschemas, value)?;
+    let reference = follow(
+        alloc,
+        document,
+        levels,
+        left,
+        texts,
+        &object.reference,
+        value,
+    )?;
+    let parts = parts_agree(
+        alloc,
+        document,
+        levels,
+        texts,
+        &object.array,
+        &object.object,
+        value,
+    )?;
+    let same = judge_same(
+        alloc,
+        document,
+        levels,
+        left,
+        texts,
+        &object.subschemas,
+        value,
+    )?;
     Ok(all_of(plain, reference, parts, same))
 }
 
@@ -120,6 +153,7 @@ fn judge_object<T: Texts>(
 fn follow<T: Texts>(
     alloc: Global,
     document: &Document,
+    levels: usize,
     left: usize,
     texts: &mut T,
     reference: &Option<String>,
@@ -139,7 +173,7 @@ fn follow<T: Texts>(
     }
     match document.target(name) {
         Some(schema) => {
-            let admitted = judge(alloc, document, left - 1, texts, schema, value)?;
+            let admitted = judge(alloc, document, levels, left - 1, texts, schema, value)?;
             Ok(admitted)
         }
         None => Ok(false),
@@ -150,6 +184,7 @@ fn follow<T: Texts>(
 fn parts_agree<T: Texts>(
     alloc: Global,
     document: &Document,
+    levels: usize,
     texts: &mut T,
     array: &Option<ArrayValidation>,
     object: &Option<ObjectValidation>,
@@ -165,11 +200,11 @@ fn parts_agree<T: Texts>(
 {
     match (value, array, object) {
         (Value::Array(values), Some(array), _) => {
-            let agrees = lists_agree(alloc, document, texts, array, values)?;
+            let agrees = lists_agree(alloc, document, levels, texts, array, values)?;
             Ok(agrees)
         }
         (Value::Object(members), _, Some(object)) => {
-            let agrees = members_agree(alloc, document, texts, object, members)?;
+            let agrees = members_agree(alloc, document, levels, texts, object, members)?;
             Ok(agrees)
         }
         _ => Ok(true),
@@ -180,6 +215,7 @@ fn parts_agree<T: Texts>(
 fn judge_same<T: Texts>(
     alloc: Global,
     document: &Document,
+    levels: usize,
     left: usize,
     texts: &mut T,
     subschemas: &Option<Subschemas>,
@@ -198,6 +234,7 @@ fn judge_same<T: Texts>(
     let all = list_agrees(
         alloc,
         document,
+        levels,
         left,
         texts,
         Wanted::All,
@@ -207,6 +244,7 @@ fn judge_same<T: Texts>(
     let any = list_agrees(
         alloc,
         document,
+        levels,
         left,
         texts,
         Wanted::Any,
@@ -216,13 +254,14 @@ fn judge_same<T: Texts>(
     let one = list_agrees(
         alloc,
         document,
+        levels,
         left,
         texts,
         Wanted::One,
         &lists.one_of,
         value,
     )?;
-    let not = not_agrees(alloc, document, left, texts, &lists.not, value)?;
+    let not = not_agrees(alloc, document, levels, left, texts, &lists.not, value)?;
     Ok(all_of(all, any, one, not))
 }
 
@@ -230,6 +269,7 @@ fn judge_same<T: Texts>(
 fn list_agrees<T: Texts>(
     alloc: Global,
     document: &Document,
+    levels: usize,
     left: usize,
     texts: &mut T,
     wanted: Wanted,
@@ -248,7 +288,7 @@ fn list_agrees<T: Texts>(
     };
     let mut count = 0;
     for schema in schemas {
-        let admitted = judge(alloc, document, left, texts, schema, value)?;
+        let admitted = judge(alloc, document, levels, left, texts, schema, value)?;
         count = counted(count, admitted);
     }
     Ok(is_enough(wanted, count, schemas.len()))
@@ -258,6 +298,7 @@ fn list_agrees<T: Texts>(
 fn not_agrees<T: Texts>(
     alloc: Global,
     document: &Document,
+    levels: usize,
     left: usize,
     texts: &mut T,
     not: &Option<Box<Schema>>,
@@ -272,7 +313,7 @@ fn not_agrees<T: Texts>(
 {
     match not {
         Some(schema) => {
-            let admitted = judge(alloc, document, left, texts, schema, value)?;
+            let admitted = judge(alloc, document, levels, left, texts, schema, value)?;
             Ok(!admitted)
         }
         None => Ok(true),
@@ -284,6 +325,7 @@ fn not_agrees<T: Texts>(
 fn maybe_agrees<T: Texts>(
     alloc: Global,
     document: &Document,
+    levels: usize,
     texts: &mut T,
     schema: Option<&Schema>,
     value: &Value,
@@ -296,7 +338,7 @@ fn maybe_agrees<T: Texts>(
 {
     match schema {
         Some(schema) => {
-            let admitted = admits_part(alloc, document, texts, schema, value)?;
+            let admitted = admits_part(alloc, document, levels, texts, schema, value)?;
             Ok(admitted)
         }
         None => Ok(true),
@@ -307,6 +349,7 @@ fn maybe_agrees<T: Texts>(
 fn lists_agree<T: Texts>(
     alloc: Global,
     document: &Document,
+    levels: usize,
     texts: &mut T,
     array: &ArrayValidation,
     values: &Vec<Value>,
@@ -323,12 +366,13 @@ fn lists_agree<T: Texts>(
     let items = items_agree(
         alloc,
         document,
+        levels,
         texts,
         &array.items,
         &array.additional_items,
         values,
     )?;
-    let contains = contains_agrees(alloc, document, texts, &array.contains, values)?;
+    let contains = contains_agrees(alloc, document, levels, texts, &array.contains, values)?;
     Ok(all_of(items, contains, sized, distinct))
 }
 
@@ -336,6 +380,7 @@ fn lists_agree<T: Texts>(
 fn items_agree<T: Texts>(
     alloc: Global,
     document: &Document,
+    levels: usize,
     texts: &mut T,
     items: &Option<Items>,
     rest: &Option<Box<Schema>>,
@@ -354,11 +399,11 @@ fn items_agree<T: Texts>(
     };
     match places {
         Items::One(schema) => {
-            let count = count_admitted(alloc, document, texts, schema, values)?;
+            let count = count_admitted(alloc, document, levels, texts, schema, values)?;
             Ok(count == values.len())
         }
         Items::Many(schemas) => {
-            let agrees = by_places(alloc, document, texts, schemas, rest, values)?;
+            let agrees = by_places(alloc, document, levels, texts, schemas, rest, values)?;
             Ok(agrees)
         }
     }
@@ -368,6 +413,7 @@ fn items_agree<T: Texts>(
 fn contains_agrees<T: Texts>(
     alloc: Global,
     document: &Document,
+    levels: usize,
     texts: &mut T,
     contains: &Option<Box<Schema>>,
     values: &Vec<Value>,
@@ -381,7 +427,7 @@ fn contains_agrees<T: Texts>(
     match contains {
         None => Ok(true),
         Some(schema) => {
-            let count = count_admitted(alloc, document, texts, schema, values)?;
+            let count = count_admitted(alloc, document, levels, texts, schema, values)?;
             Ok(count > 0)
         }
     }
@@ -392,6 +438,7 @@ fn contains_agrees<T: Texts>(
 fn count_admitted<T: Texts>(
     alloc: Global,
     document: &Document,
+    levels: usize,
     texts: &mut T,
     schema: &Schema,
     values: &Vec<Value>,
@@ -404,7 +451,7 @@ fn count_admitted<T: Texts>(
 {
     let mut count = 0;
     for value in values {
-        let admitted = admits_part(alloc, document, texts, schema, value)?;
+        let admitted = admits_part(alloc, document, levels, texts, schema, value)?;
         count = counted(count, admitted);
     }
     Ok(count)
@@ -415,6 +462,7 @@ fn count_admitted<T: Texts>(
 fn by_places<T: Texts>(
     alloc: Global,
     document: &Document,
+    levels: usize,
     texts: &mut T,
     schemas: &Vec<Schema>,
     rest: &Option<Box<Schema>>,
@@ -430,7 +478,7 @@ fn by_places<T: Texts>(
 {
     for (place, value) in values.iter().enumerate() {
         let schema = at_place(schemas, rest, place);
-        if !maybe_agrees(alloc, document, texts, schema, value)? {
+        if !maybe_agrees(alloc, document, levels, texts, schema, value)? {
             return Ok(false);
         }
     }
@@ -441,6 +489,7 @@ fn by_places<T: Texts>(
 fn members_agree<T: Texts>(
     alloc: Global,
     document: &Document,
+    levels: usize,
     texts: &mut T,
     object: &ObjectValidation,
     members: &Map<String, Value>,
@@ -456,7 +505,7 @@ fn members_agree<T: Texts>(
         return Ok(false);
     }
     for (name, value) in members.iter() {
-        if !member_agrees(alloc, document, texts, object, name, value)? {
+        if !member_agrees(alloc, document, levels, texts, object, name, value)? {
             return Ok(false);
         }
     }
@@ -467,6 +516,7 @@ fn members_agree<T: Texts>(
 fn member_agrees<T: Texts>(
     alloc: Global,
     document: &Document,
+    levels: usize,
     texts: &mut T,
     object: &ObjectValidation,
     name: &str,
@@ -481,16 +531,16 @@ fn member_agrees<T: Texts>(
 {
     let passed = is_passed_over(document.setting(), &object.required, name, value);
     let property = property_unless(passed, &object.properties, name);
-    let by_name = maybe_agrees(alloc, document, texts, property, value)?;
+    let by_name = maybe_agrees(alloc, document, levels, texts, property, value)?;
     let patterns = &object.pattern_properties;
-    let by_pattern = patterns_agree(alloc, document, texts, patterns, name, value)?;
+    let by_pattern = patterns_agree(alloc, document, levels, texts, patterns, name, value)?;
     let is_named = object.properties.contains_key(name);
     let matched = has_any(texts, patterns, name)?;
     let rest = unless(either(is_named, matched), &object.additional_properties);
-    let by_rest = maybe_agrees(alloc, document, texts, rest, value)?;
+    let by_rest = maybe_agrees(alloc, document, levels, texts, rest, value)?;
     let text = text_value(alloc, name)?;
     let names = unless(false, &object.property_names);
-    let by_names = maybe_agrees(alloc, document, texts, names, &text)?;
+    let by_names = maybe_agrees(alloc, document, levels, texts, names, &text)?;
     Ok(all_of(by_name, by_pattern, by_rest, by_names))
 }
 
@@ -499,6 +549,7 @@ fn member_agrees<T: Texts>(
 fn patterns_agree<T: Texts>(
     alloc: Global,
     document: &Document,
+    levels: usize,
     texts: &mut T,
     patterns: &BTreeMap<String, Schema>,
     name: &str,
@@ -513,7 +564,7 @@ fn patterns_agree<T: Texts>(
 {
     for (pattern, schema) in patterns.iter() {
         if texts.has_pattern(pattern, name)? {
-            if !admits_part(alloc, document, texts, schema, value)? {
+            if !admits_part(alloc, document, levels, texts, schema, value)? {
                 return Ok(false);
             }
         }
