@@ -22,197 +22,69 @@ pub struct Line {
     pub row: Row,
 }
 
+// Attributes by their names, each with its form.
+macro_rules! lines {
+    ($($name:ident => $row:ident,)*) => {
+        [$(Line { name: $name, row: Row::$row }),*]
+    };
+}
+
 // The attributes of a container.
-static CONTAINER: [Line; 18] = [
-    Line {
-        name: RENAME,
-        row: Row::Names,
-    },
-    Line {
-        name: RENAME_ALL,
-        row: Row::Rules,
-    },
-    Line {
-        name: RENAME_ALL_FIELDS,
-        row: Row::FieldsRules,
-    },
-    Line {
-        name: TRANSPARENT,
-        row: Row::Flag,
-    },
-    Line {
-        name: DENY_UNKNOWN_FIELDS,
-        row: Row::Flag,
-    },
-    Line {
-        name: DEFAULT,
-        row: Row::ContainerDefault,
-    },
-    Line {
-        name: BOUND,
-        row: Row::Bounds,
-    },
-    Line {
-        name: UNTAGGED,
-        row: Row::EnumFlag,
-    },
-    Line {
-        name: TAG,
-        row: Row::Tag,
-    },
-    Line {
-        name: CONTENT,
-        row: Row::Content,
-    },
-    Line {
-        name: FROM,
-        row: Row::Ty,
-    },
-    Line {
-        name: TRY_FROM,
-        row: Row::Ty,
-    },
-    Line {
-        name: INTO,
-        row: Row::Ty,
-    },
-    Line {
-        name: REMOTE,
-        row: Row::Remote,
-    },
-    Line {
-        name: FIELD_IDENTIFIER,
-        row: Row::Flag,
-    },
-    Line {
-        name: VARIANT_IDENTIFIER,
-        row: Row::Flag,
-    },
-    Line {
-        name: CRATE,
-        row: Row::Path,
-    },
-    Line {
-        name: EXPECTING,
-        row: Row::Text,
-    },
-];
+static CONTAINER: [Line; 18] = lines! {
+    RENAME => Names,
+    RENAME_ALL => Rules,
+    RENAME_ALL_FIELDS => FieldsRules,
+    TRANSPARENT => Flag,
+    DENY_UNKNOWN_FIELDS => Flag,
+    DEFAULT => ContainerDefault,
+    BOUND => Bounds,
+    UNTAGGED => EnumFlag,
+    TAG => Tag,
+    CONTENT => Content,
+    FROM => Ty,
+    TRY_FROM => Ty,
+    INTO => Ty,
+    REMOTE => Remote,
+    FIELD_IDENTIFIER => Flag,
+    VARIANT_IDENTIFIER => Flag,
+    CRATE => Path,
+    EXPECTING => Text,
+};
 
 // Those of a variant.
-static VARIANT: [Line; 13] = [
-    Line {
-        name: RENAME,
-        row: Row::ManyNames,
-    },
-    Line {
-        name: ALIAS,
-        row: Row::Alias,
-    },
-    Line {
-        name: RENAME_ALL,
-        row: Row::Rules,
-    },
-    Line {
-        name: SKIP,
-        row: Row::Skip,
-    },
-    Line {
-        name: SKIP_DESERIALIZING,
-        row: Row::Flag,
-    },
-    Line {
-        name: SKIP_SERIALIZING,
-        row: Row::Flag,
-    },
-    Line {
-        name: OTHER,
-        row: Row::Flag,
-    },
-    Line {
-        name: BOUND,
-        row: Row::Bounds,
-    },
-    Line {
-        name: WITH,
-        row: Row::With,
-    },
-    Line {
-        name: SERIALIZE_WITH,
-        row: Row::Function,
-    },
-    Line {
-        name: DESERIALIZE_WITH,
-        row: Row::Function,
-    },
-    Line {
-        name: BORROW,
-        row: Row::VariantBorrow,
-    },
-    Line {
-        name: UNTAGGED,
-        row: Row::Flag,
-    },
-];
+static VARIANT: [Line; 13] = lines! {
+    RENAME => ManyNames,
+    ALIAS => Alias,
+    RENAME_ALL => Rules,
+    SKIP => Skip,
+    SKIP_DESERIALIZING => Flag,
+    SKIP_SERIALIZING => Flag,
+    OTHER => Flag,
+    BOUND => Bounds,
+    WITH => With,
+    SERIALIZE_WITH => Function,
+    DESERIALIZE_WITH => Function,
+    BORROW => VariantBorrow,
+    UNTAGGED => Flag,
+};
 
 // Those of a field.
-static FIELD: [Line; 14] = [
-    Line {
-        name: RENAME,
-        row: Row::ManyNames,
-    },
-    Line {
-        name: ALIAS,
-        row: Row::Alias,
-    },
-    Line {
-        name: DEFAULT,
-        row: Row::FieldDefault,
-    },
-    Line {
-        name: SKIP_SERIALIZING,
-        row: Row::Flag,
-    },
-    Line {
-        name: SKIP_DESERIALIZING,
-        row: Row::Flag,
-    },
-    Line {
-        name: SKIP,
-        row: Row::Skip,
-    },
-    Line {
-        name: SKIP_SERIALIZING_IF,
-        row: Row::Function,
-    },
-    Line {
-        name: SERIALIZE_WITH,
-        row: Row::Function,
-    },
-    Line {
-        name: DESERIALIZE_WITH,
-        row: Row::Function,
-    },
-    Line {
-        name: WITH,
-        row: Row::With,
-    },
-    Line {
-        name: BOUND,
-        row: Row::Bounds,
-    },
-    Line {
-        name: BORROW,
-        row: Row::FieldBorrow,
-    },
-    Line {
-        name: GETTER,
-        row: Row::Function,
-    },
-    Line {
-        name: FLATTEN,
-        row: Row::Flag,
-    },
-];
+static FIELD: [Line; 14] = lines! {
+    RENAME => ManyNames,
+    ALIAS => Alias,
+    DEFAULT => FieldDefault,
+    SKIP_SERIALIZING => Flag,
+    SKIP_DESERIALIZING => Flag,
+    SKIP => Skip,
+    SKIP_SERIALIZING_IF => Function,
+    SERIALIZE_WITH => Function,
+    DESERIALIZE_WITH => Function,
+    WITH => With,
+    BOUND => Bounds,
+    BORROW => FieldBorrow,
+    GETTER => Function,
+    FLATTEN => Flag,
+};
 
 // The attributes of a container.
 fn container_lines() -> &'static [Line]

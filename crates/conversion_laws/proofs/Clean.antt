@@ -11,7 +11,6 @@ use Rattle.schema_defs.proofs.Spare.{Refs}
 use Rattle.model_defs.specs.Layer as model
 use Rattle.entry_defs.specs.Entry.{Target, Entry}
 use Rattle.entry_defs.specs.Layer as entry
-use Rattle.entry_defs.specs.Layer.{entry_takes}
 use Rattle.enum_defs.specs.Exclusive.{exclusive}
 use Rattle.enum_defs.specs.Kinds.{null_free}
 use Rattle.convert_defs.specs.Row.{Way, narrowed, widened, Part, child, of_branch, lone, made, row_parts}
@@ -21,7 +20,8 @@ use Rattle.convert_defs.specs.Standing.{wanted}
 use Rattle.convert_defs.specs.Table.{finding_of, row_of, notes_at, target_of, types_of_schema}
 use Rattle.convert_defs.specs.Convert.{named_by}
 use Rattle.convert_defs.specs.Laws.{Keeps, Free, HasNamesApart}
-use Rattle.convert_defs.specs.Proper.{IsProper, ProperSame, ProperMembers, AllProper, of_any_size}
+use Rattle.convert_defs.specs.Proper.{IsProper, ProperSame, ProperMembers, AllProper}
+use Rattle.each_schema.specs.Each.{of_any_size}
 use Rattle.convert_defs.proofs.Keeps.{keep-then, keep-to}
 use Rattle.convert_defs.proofs.Rows.{IsMade, IsSound, parts-weaker}
 use Rattle.convert_defs.proofs.Scalars.{Agrees}

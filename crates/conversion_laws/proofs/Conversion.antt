@@ -15,7 +15,8 @@ use Rattle.convert_defs.specs.Row.{Way}
 use Rattle.convert_defs.specs.Standing.{no_keyword}
 use Rattle.convert_defs.specs.RootReference.{refers_to_root}
 use Rattle.convert_defs.specs.Laws.{Keeps}
-use Rattle.convert_defs.specs.Proper.{IsProper, of_any_size, IsProperDocument}
+use Rattle.convert_defs.specs.Proper.{IsProper, IsProperDocument}
+use Rattle.each_schema.specs.Each.{of_any_size}
 use Rattle.convert_defs.proofs.Bare.{and_true}
 use Rattle.convert_defs.proofs.Keeps.{keep-from}
 use Rattle.convert_defs.proofs.Rows.{kind-quiet, parts-quiet}

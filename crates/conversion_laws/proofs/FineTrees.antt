@@ -5,10 +5,11 @@ use Rattle.schema_defs.specs.Texts.{Relations, IsLawful}
 use Rattle.schema_defs.specs.Schema.{Schema, Document}
 use Rattle.schema_defs.specs.Walks.{IsGuarded}
 use Rattle.convert_defs.specs.Row.{Way, Part, child, of_branch, lone, made, row_parts}
-use Rattle.convert_defs.specs.Proper.{IsProper, of_any_size, IsProperDocument}
+use Rattle.convert_defs.specs.Proper.{IsProper, IsProperDocument}
+use Rattle.each_schema.specs.Each.{of_any_size}
 use Rattle.convert_defs.specs.Table.{finding_of, row_of, notes_at}
 use Rattle.convert_defs.proofs.Bare.{none_in, no_left, no_right}
-use Rattle.convert_defs.proofs.Inside.{parts-in}
+use Rattle.convert_defs.proofs.ProperParts.{parts-proper}
 use Rattle.convert_defs.proofs.Views.{schema_of, AllParts}
 use Rattle.merge_laws.specs.Laws as fit
 use Rattle.merge_laws.specs.Laws.{ProperDocument}
@@ -21,7 +22,7 @@ use Rattle.merging_laws.specs.Conversion.{Free, AllNodes}
 use Rattle.conversion_laws.proofs.Clean.{IsGood, CleanStanding, CleanRow, Clean, R}
 use Rattle.conversion_laws.proofs.Merging.{standing-in_order, row-agrees}
 use Rattle.conversion_laws.proofs.Notes.{free-left, free-right, free-row, free-outcome, no-map, made-finding, something-stands}
-use Rattle.conversion_laws.proofs.ProperParts.{parts-proper}
+use Rattle.conversion_laws.proofs.FitParts.{parts-fit}
 
 module _ (P : Node → Type 0) where
   pub nodes-left : (xs ys : List Node) → AllNodes P (xs ++ ys) → AllNodes P xs
@@ -117,7 +118,7 @@ module _ (way : Way) (r : Relations) (lawful : IsLawful r) (d : Document) (guard
         row-stands None e f h =
             let ms : Branches = (finding_of r d s).branches in
             let rest : List Node = parts_trees r d most (λ o s. tree_at r d most m o s) o ms (row_parts (row_of r d s)) in
-            let a = parts-stand ms (row_parts (row_of r d s)) (parts-in of_any_size d r s x) (parts-proper r d s y) (past-branches o ms rest h) in
+            let a = parts-stand ms (row_parts (row_of r d s)) (parts-proper of_any_size d r s x) (parts-fit r d s y) (past-branches o ms rest h) in
             ((made-finding r d most (finding_of r d s) (no-map r d most _ _ f.0), a.0), no-branches o ms rest h a.1)
 
         good-here : (ps : Option (List Part)) → IsFine (record { spot = o; schema = s; entry = entry_at r d most (suc m) o s; state = converted (merge_of r d most m o s ps) }) → IsGood way r d most s

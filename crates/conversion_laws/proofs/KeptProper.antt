@@ -13,7 +13,8 @@ use Rattle.merge_walks.specs.Walked.{join_by_walks, less_by_walks, merge_by_walk
 use Rattle.enum_defs.specs.Words.{names_of}
 use Rattle.convert_defs.specs.Apart.{differ, names_apart}
 use Rattle.convert_defs.specs.RootReference.{is_root, refers_to_root}
-use Rattle.convert_defs.specs.Proper.{leads, AreProper, IsProper, ProperSame, ProperLists, ProperNamed, ProperMaybe, ProperMembers, AllProper, ProperPlaces, ProperProperties, AllAreProper, of_any_size}
+use Rattle.convert_defs.specs.Proper.{leads, AreProper, IsProper, ProperSame, ProperLists, ProperNamed, ProperMaybe, ProperMembers, AllProper, ProperPlaces, ProperProperties, AllAreProper}
+use Rattle.each_schema.specs.Each.{of_any_size}
 use Rattle.conversion_laws.specs.Keeping.{Always, SizesAreKept, AreKeptProper, Throughout, ThroughoutSame, ThroughoutList, ThroughoutMaybe, ThroughoutAll, MergesAreProper}
 use Rattle.conversion_laws.proofs.KeptLayers.{Keeps, IsKept}
 use Rattle.conversion_laws.proofs.KeptWalks.{join-kept, less-kept, with-kept, several-kept}

@@ -6,12 +6,7 @@ mod KeptLists
 mod KeptNamed
 pub mod KeptProper
 pub mod KeptEnds
-pub mod Deep
-mod InsideOwners
-mod InsideShapes
-mod InsideMembers
-mod Inside
-mod ProperParts
+mod FitParts
 mod Throughout
 mod Standings
 mod Layer

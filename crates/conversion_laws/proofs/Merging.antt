@@ -9,7 +9,8 @@ use Rattle.schema_defs.proofs.Spare.{Refs, Refs-weaker, Ends}
 use Rattle.convert_defs.specs.Row as row
 use Rattle.convert_defs.specs.Row.{Way, narrowed, widened, Part}
 use Rattle.convert_defs.specs.Laws.{Keeps, Free}
-use Rattle.convert_defs.specs.Proper.{IsProper, AllAreProper, of_any_size, IsProperDocument}
+use Rattle.convert_defs.specs.Proper.{IsProper, AllAreProper, IsProperDocument}
+use Rattle.each_schema.specs.Each.{of_any_size}
 use Rattle.convert_defs.specs.RootReference.{refers_to_root}
 use Rattle.convert_defs.specs.Table.{row_of, notes_at}
 use Rattle.convert_defs.proofs.Bare.{none-some}

@@ -6,7 +6,8 @@ use Rattle.merge_defs.specs.Outcome.{Outcome, fault, never, answer}
 use Rattle.merge_defs.specs.Arrays.{joined_rules}
 use Rattle.merge_defs.specs.Members.{only_same}
 use Rattle.merge_walks.specs.Walked.{join_by_walks, less_by_walks, merge_by_walks, with_by_walks}
-use Rattle.convert_defs.specs.Proper.{IsProper, ProperSame, AllProper, AllAreProper, of_any_size}
+use Rattle.convert_defs.specs.Proper.{IsProper, ProperSame, AllProper, AllAreProper}
+use Rattle.each_schema.specs.Each.{of_any_size}
 
 -- P of what is answered
 abbrev pub Always : {A : Type 0} → (A → Type 0) → Outcome A → Type 0

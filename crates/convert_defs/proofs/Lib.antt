@@ -33,5 +33,10 @@ pub mod Constants
 pub mod Alone
 pub mod Fine
 pub mod Weaker
+pub mod InsideParts
+mod InsideOwners
+mod InsideShapes
+mod InsideMembers
 pub mod Inside
+pub mod ProperParts
 pub mod Chains

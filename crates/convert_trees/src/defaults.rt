@@ -20,7 +20,7 @@ ghost use Rattle.convert_trees.specs.Unread.{fits_by, is_given as is_given_of, s
 use crate::faults::text_fault;
 use crate::keeping::Values;
 use crate::scope::Scope;
-use default_reading::{found_of, is_ended};
+use default_reading::{default_found, is_ended};
 use entry_trees::{Tree, TreeTable};
 use integer_rows::is_bounded;
 use row_types::{Keywords, Leaf, Row, Source, Steps, keywords_of};
@@ -182,7 +182,7 @@ fn is_given_by<'d, T: Texts>(
     ensures keeps { T.relations texts.new ≡ T.relations texts.old }
     ensures counts { T.faults texts.old ≤ T.faults texts.new }
 {
-    match found_of(table, tree, value, texts) {
+    match default_found(table, tree, value, texts) {
         Ok(found) => Ok(is_ended(found) && fits_row(source, row, value)),
         Err(fault) => Err(text_fault(scope, trail, fault)),
     }

@@ -133,16 +133,16 @@ fn first_unread<'d, T: Texts>(
     levels: u32,
     texts: &mut T,
     table: &TreeTable<'d>,
-    listed: &Option<Unread<'d>>,
+    stated: &Option<Unread<'d>>,
 ) -> Result<Option<Unread<'d>>, Fault>
     requires { merges_view merges.now.items ≡ merges_in (document_tree (T.relations texts.old) (document_seen document.now) depth levels) }
-    ensures unread { IfOk result (λ o. option_map unread_view listed.now ≡ first_kept None (unread_in (T.relations texts.old) None (document_seen document.now) (document_tree (T.relations texts.old) (document_seen document.now) depth levels))
+    ensures unread { IfOk result (λ o. option_map unread_view stated.now ≡ first_kept None (unread_in (T.relations texts.old) None (document_seen document.now) (document_tree (T.relations texts.old) (document_seen document.now) depth levels))
         → option_map unread_view o ≡ first_kept None (unread_in (T.relations texts.old) (Some (table_view table.now)) (document_seen document.now) (document_tree (T.relations texts.old) (document_seen document.now) depth levels))) }
     ensures refused { IfErr result (λ f. Refuses (T.relations texts.old) (document_seen document.now) depth levels (T.faults texts.old) (T.faults texts.new) (document_tree (T.relations texts.old) (document_seen document.now) depth levels) (fault_view f)) }
     ensures keeps { T.relations texts.new ≡ T.relations texts.old }
     ensures counts { T.faults texts.old ≤ T.faults texts.new }
 {
-    match listed {
+    match stated {
         Some(_) => unread_by_table(alloc, document, merges, depth, levels, texts, table),
         None => Ok(None),
     }

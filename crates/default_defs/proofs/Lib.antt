@@ -1,4 +1,2 @@
 pub mod Alike
 pub mod Taken
-pub mod Related
-pub mod Stays

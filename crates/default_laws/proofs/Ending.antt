@@ -21,7 +21,7 @@ use Rattle.emit_defs.specs.Emission.{models_of}
 use Rattle.default_defs.specs.Found.{Found, refused, ended, endless}
 use Rattle.default_defs.specs.Supplied.{read_inside, stated_in, stated_in_targets, supplied}
 use Rattle.default_defs.specs.Laws.{Agrees}
-use Rattle.default_defs.proofs.Stays.{ended_stays}
+use Rattle.default_levels.proofs.Stays.{ended_stays}
 use Rattle.default_defs.proofs.Taken.{found_is_taken}
 use Rattle.default_laws.specs.Laws.{as_found, DefaultsAreRead, read_by_levels, AllEnd, EndedIsSound}
 use Rattle.default_laws.specs.Stated.{StatedAt}

@@ -3,7 +3,7 @@ use Rattle.std.proofs.Common.{◌≡◌, ◌≤◌, ℕ, ◌+◌, List, [], ◌�
 use Rattle.json_value.specs.Value.{Value}
 use Rattle.entry_defs.specs.Entry.{Entry}
 use Rattle.default_defs.specs.Found.{Found, refused, ended, endless}
-use Rattle.default_defs.proofs.Stays.{StaysAs}
+use Rattle.default_levels.proofs.Stays.{StaysAs}
 use Rattle.default_levels.proofs.Pairs.{Stated, Each}
 
 abbrev pub endless_as : Found → ℕ

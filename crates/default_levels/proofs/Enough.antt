@@ -4,12 +4,12 @@ use Rattle.json_value.specs.Value.{Value}
 use Rattle.schema_defs.specs.Texts.{Relations}
 use Rattle.entry_defs.specs.Entry.{Entry}
 use Rattle.entry_defs.specs.Table.{Table}
-use Rattle.default_defs.specs.Found.{Found, refused, ended, endless}
-use Rattle.default_defs.specs.Supplied.{stated_in, stated_in_targets, read_inside, supplied}
-use Rattle.default_defs.proofs.Stays.{StaysAs, stays}
+use Rattle.default_defs.specs.Found.{Found, refused, ended, endless, both, or_next, given}
+use Rattle.default_defs.specs.Supplied.{stated_in, stated_in_targets, value_read, read_inside, supplied}
+use Rattle.default_levels.proofs.Stays.{StaysAs, stays}
 use Rattle.default_levels.specs.Laws.{MoreLevelsStay, EndlessStays, SuppliedIsRead}
 use Rattle.default_levels.proofs.Pairs.{Stated, pairs, in_targets, as_many_in_all, Each, front, behind, each_as, each_by, each_swapped, Inner, inner_all}
-use Rattle.default_levels.proofs.Local.{Same, of_value}
+use Rattle.default_levels.proofs.Related.{IsKept, of_value}
 use Rattle.default_levels.proofs.Endless.{endless_in, at_most, same_where_as_many}
 
 within_or_past : (m n : ℕ) → (m ≤ n) ⊎ (n < m)
@@ -20,6 +20,20 @@ within_or_past (suc m) (suc n) = by (within_or_past m n)
     by : (m ≤ n) ⊎ (n < m) → (suc m ≤ suc n) ⊎ (suc n < suc m)
     by (inl h) = inl (omega (arith, h))
     by (inr h) = inr (omega (arith, h))
+
+-- ---- what is read goes by what the stated defaults come to, and by nothing else
+
+equal : IsKept (λ a b. a ≡ b)
+equal = record { of_one = λ x. refl; of_both = λ x y a b h k. λ i. both (h i) (k i); of_next = λ x y a b h k. λ i. or_next (h i) (k i); of_given = λ x a h. ap given h }
+
+module _ (x y : Entry → Value → Found) where
+  abbrev Same : Entry → Value → Type 0
+  Same e v = x e v ≡ y e v
+
+  same_value : (t : Table) → Each Same (in_targets t.targets) → (r : Relations) (v : Value) (e : Entry) → Each Same (pairs e) → value_read t r x v e ≡ value_read t r y v e
+  same_value = of_value (λ a b. a ≡ b) equal x y
+
+-- ---- levels
 
 module _ (t : Table) (r : Relations) (e : Entry) where
   -- those that may be read
@@ -34,7 +48,7 @@ module _ (t : Table) (r : Relations) (e : Entry) where
 
   -- what is read of a value of an entry whose stated defaults are among them
   same_read : (k : ℕ) → Steady k → (c : Entry) → Each (Same (level k) (level (suc k))) (pairs c) → (u : Value) → level (suc k) c u ≡ level (suc (suc k)) c u
-  same_read k s c h u = of_value (level k) (level (suc k)) t (front (Same (level k) (level (suc k))) (in_targets t.targets) (pairs e) s) r u c h
+  same_read k s c h u = same_value (level k) (level (suc k)) t (front (Same (level k) (level (suc k))) (in_targets t.targets) (pairs e) s) r u c h
 
   steady_on : (k : ℕ) → Steady k → Steady (suc k)
   steady_on k s =
@@ -111,7 +125,7 @@ supplied_is_read t r e v =
     let few : length (in_targets t.targets ++ pairs e) ≤ k = omega (arith, as_many_in_all t.targets e) in
     let each = each_as (Stays t r k) (Same (read_inside t r k) (supplied t r)) (settled t r k) (in_targets t.targets ++ pairs e)
     (each_swapped (λ j. Same (read_inside t r k) (read_inside t r (j + k))) (in_targets t.targets ++ pairs e) (λ j. stays_on t r e j k few)) in
-    of_value (read_inside t r k) (supplied t r) t (front (Same (read_inside t r k) (supplied t r)) (in_targets t.targets) (pairs e) each) r v e
+    same_value (read_inside t r k) (supplied t r) t (front (Same (read_inside t r k) (supplied t r)) (in_targets t.targets) (pairs e) each) r v e
     (behind (Same (read_inside t r k) (supplied t r)) (in_targets t.targets) (pairs e) each)
 
 pub endless_stays : EndlessStays

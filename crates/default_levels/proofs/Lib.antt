@@ -1,4 +1,5 @@
 pub mod Pairs
-pub mod Local
+pub mod Related
+pub mod Stays
 pub mod Endless
 pub mod Enough

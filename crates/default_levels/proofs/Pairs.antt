@@ -139,6 +139,10 @@ module _ (P : Entry → Value → Type 0) where
   joined [] ys h k = k
   joined (x ∷ xs) ys h k = (h.0, joined xs ys h.1 k)
 
+  pub everywhere : ((e : Entry) (v : Value) → P e v) → (xs : List Stated) → Each xs
+  everywhere h [] = tt
+  everywhere h (x ∷ xs) = (h x.0 x.1, everywhere h xs)
+
 module _ (P Q : Entry → Value → Type 0) (leads : (e : Entry) (v : Value) → P e v → Q e v) where
   pub each_as : (xs : List Stated) → Each P xs → Each Q xs
   each_as [] h = tt

@@ -1,6 +1,11 @@
 //! What holds of all tables: each law is the contract of a function that does nothing.
 
-ghost use Rattle.default_levels.specs.Laws.{MoreLevelsStay, EndlessStays, SuppliedIsRead};
+ghost use Rattle.default_levels.specs.Laws.{EndedStays, MoreLevelsStay, EndlessStays, SuppliedIsRead};
+
+/// More levels change nothing once reading ends or refuses.
+pub fn ended_stays()
+    ensures { EndedStays }
+{}
 
 /// More levels than are stated defaults come to the same.
 pub fn more_levels_stay()

@@ -1,45 +1,21 @@
 -- What comes of values level by level.
-use Rattle.std.proofs.Common.{◌≡◌, ℕ, zero, suc, ◌+◌, ◌-◌, ◌≤◌, List, [], ◌∷◌, ◌++◌, map, length, Some, None, refl, sym, ap, subst, ◌∙◌, arith}
-use Rattle.std.specs.List.{flat_map}
+use Rattle.std.proofs.Common.{◌≡◌, ℕ, zero, suc, ◌+◌, ◌-◌, length, Some, None, refl, sym, ap, subst, ◌∙◌, arith}
 use Rattle.json_value.specs.Value as value
-use Rattle.json_value.specs.Value.{Value, Items, Members, null, number, fraction, text, list, object, no_items, item, no_members, member}
+use Rattle.json_value.specs.Value.{Value, null, number, fraction, text, list, object, item}
 use Rattle.schema_defs.specs.Texts.{Relations}
 use Rattle.entry_defs.specs.Entry as entry
 use Rattle.entry_defs.specs.Entry.{Target, Entry, boolean_entry, integer_entry, text_entry, native_entry, any_entry, unit_entry, option_entry, vec_entry, set_entry, map_entry, tuple_entry, array_entry, reference}
-use Rattle.entry_defs.specs.Table.{ItemEntry, TargetEntry, Table, allowed, items_in, items_of, items_in_shape, target_item}
-use Rattle.entry_trees.specs.declared.tree.Target.{Target as CodeTarget}
+use Rattle.entry_defs.specs.Table.{Table, allowed, target_item}
 use Rattle.entry_trees.specs.declared.tree.Tree.{Tree}
 use Rattle.entry_trees.specs.declared.tree.TreeTable.{TreeTable}
-use Rattle.entry_trees.specs.View.{item_in, table_view, target_entry, tree_view}
-use Rattle.default_defs.proofs.Stays.{StaysAs, stays}
+use Rattle.entry_trees.specs.View.{item_in, table_view, tree_view}
+use Rattle.default_levels.proofs.Stays.{StaysAs, stays}
 use Rattle.default_defs.specs.Found.{Found, refused, ended, endless, both, given}
 use Rattle.default_defs.specs.Layer.{shape_read}
 use Rattle.default_defs.specs.Supplied.{follows, item_read, parts_of, read_inside, stated_in, stated_in_targets, supplied}
+use Rattle.scalar_takes.proofs.Fuel.{as_many, enough}
 use Rattle.default_reading.specs.Steps.{Setting, setting, missed, comes, comes_in, supplies}
 use Rattle.default_reading.proofs.Joined.{both_alone}
-
--- ---- how many references
-
-shorter : (xs ys : List ItemEntry) → length xs ≤ length (xs ++ ys)
-shorter [] ys = let e : 0 ≤ length ys = omega arith in e
-shorter (x ∷ xs) ys = let h = shorter xs ys in let e : suc (length xs) ≤ suc (length (xs ++ ys)) = omega (arith, h) in e
-
-led : (ts : List TargetEntry) → length (map (λ t. t.led_to) ts) ≡ length ts
-led [] = refl
-led (t ∷ ts) = ap suc (led ts)
-
-as_many : (xs : List (CodeTarget × Tree)) → length (map target_entry xs) ≡ length xs
-as_many [] = refl
-as_many (x ∷ xs) = ap suc (as_many xs)
-
-enough : (t : Table) (left : ℕ) → left ≡ length t.targets → left + (allowed t - left) ≡ allowed t
-enough t left h =
-    let a = led t.targets in
-    let first = map (λ (e : TargetEntry). e.led_to) t.targets in
-    let second = flat_map (λ (e : TargetEntry). items_in_shape e.led_to.shape) t.targets in
-    let b = shorter first second in
-    let c : length (first ++ second) ≤ length (items_of t) = shorter (first ++ second) (flat_map items_in t.trees) in
-    omega (arith, h, a, b, c)
 
 -- ---- all references allowed
 

@@ -13,4 +13,4 @@ mod room;
 mod supplied;
 
 pub use found::{Found, is_ended};
-pub use supplied::found_of;
+pub use supplied::default_found;

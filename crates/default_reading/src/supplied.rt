@@ -40,7 +40,7 @@ fn found_by_count<'d, 'k, T: Texts>(
 /// What the value comes to as a stated default of the tree, by the items of the table. It fails where memory runs out, or where the judge of
 /// texts failed. Where more references are followed at one value than lead to different items, or more than 1,000 levels of reading stand in one
 /// another, the answer is want of memory.
-pub fn found_of<'d, 'k, T: Texts>(
+pub fn default_found<'d, 'k, T: Texts>(
     table: &TreeTable<'k>,
     tree: &Tree<'d>,
     value: &Value,

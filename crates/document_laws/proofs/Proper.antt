@@ -11,10 +11,11 @@ use Rattle.schema_faults.proofs.Roots.{empty-told}
 use Rattle.schema_faults.proofs.Targets.{leads_to_targets}
 use Rattle.schema_laws.proofs.Options.{IfThere}
 use Rattle.schema_laws.proofs.Fine.{Passes, Fine, FineSame, FineLists, FineNamed, FineMaybe, FineList, FineAll, FinePlaces, FineNames, FineDefinitions, FineDocument}
-use Rattle.schema_laws.proofs.Reading.{document_fine}
+use Rattle.schema_laws.proofs.Passing.{document_fine}
 use Rattle.convert_defs.specs.Apart.{names_apart}
 use Rattle.convert_defs.specs.RootReference.{is_root, has_root, root_in_same, root_in_lists, root_in_named, root_in_maybe, root_in_members, root_in_all, root_in_places, root_in_properties, refers_to_root}
-use Rattle.convert_defs.specs.Proper.{leads, IsProper, ProperSame, ProperLists, ProperNamed, ProperMaybe, ProperMembers, AllProper, ProperPlaces, ProperProperties, AllAreProper, of_any_size}
+use Rattle.convert_defs.specs.Proper.{leads, IsProper, ProperSame, ProperLists, ProperNamed, ProperMaybe, ProperMembers, AllProper, ProperPlaces, ProperProperties, AllAreProper}
+use Rattle.each_schema.specs.Each.{of_any_size}
 use Rattle.document_laws.specs.Laws.{WasRead, AsksForFew, DocumentsAreProper, DocumentsAreSized}
 use Rattle.document_laws.proofs.Apart.{Apart, ApartSame, ApartLists, ApartNamed, ApartMaybe, ApartList, ApartAll, ApartPlaces, ApartNames, ApartDefinitions, ApartDocument}
 use Rattle.document_laws.proofs.NamesRead.{document_apart}

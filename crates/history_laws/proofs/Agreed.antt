@@ -18,7 +18,8 @@ use Rattle.naming_defs.proofs.Meaning.{unseen}
 use Rattle.naming_defs.proofs.Sound.{named_tables_are_sound}
 use Rattle.convert_defs.specs.Convert.{as_item}
 use Rattle.convert_defs.specs.Laws.{Keeps}
-use Rattle.convert_defs.specs.Proper.{IsProper, of_any_size, IsProperDocument}
+use Rattle.convert_defs.specs.Proper.{IsProper, IsProperDocument}
+use Rattle.each_schema.specs.Each.{of_any_size}
 use Rattle.convert_defs.specs.RootReference.{refers_to_root}
 use Rattle.convert_defs.specs.Row.{Way}
 use Rattle.convert_defs.proofs.Bare.{none-some, some-same}

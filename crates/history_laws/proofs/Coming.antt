@@ -17,7 +17,7 @@ use Rattle.naming_defs.proofs.Sound.{named_tables_are_sound}
 use Rattle.emit_defs.specs.Formed.{EntryIsFormed, Shaped, Anywhere, IsShaped, IsEmittable}
 use Rattle.emit_defs.proofs.Named.{named_tables_are_formed}
 use Rattle.convert_defs.specs.Convert.{Handed}
-use Rattle.convert_defs.specs.Proper.{of_any_size}
+use Rattle.each_schema.specs.Each.{of_any_size}
 use Rattle.convert_walks.specs.Tree.{entry_at, table_of}
 use Rattle.document_laws.specs.Laws.{WasRead, AsksForFew}
 use Rattle.document_laws.proofs.Proper.{documents_are_proper, documents_are_sized}

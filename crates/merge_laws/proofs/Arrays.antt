@@ -637,7 +637,7 @@ module _ (join : Schema → Schema → Outcome Schema) (always : (a b : Schema) 
         (λ f. (c && contains_say here js k) && front_says join always js e rules_say array d (c && contains_say here js k) (most' k d) (least' k d) (limited d) f)
         (λ o. c && lists_say here js rules_say o) (with_front k d) (two_places join array d p x q y)
         (two_places_meet join always js e rules_say array d (c && contains_say here js k) (most' k d) (least' k d) (limited d) p x q y u.0 u.1 v.0 v.1)
-        (λ f g. proper_kept (lists f.places f.rest k (record d { max_items = f.max_items })) (g.0, g.1, pk))
+        (λ f g. proper_kept (lists f.places f.rest k (record d { max_items = f.max_items })) (g.0, g.1, pk, tt))
         (λ f g. ap (λ t. c && t) (kept_say here js rules_say silent (lists f.places f.rest k (record d { max_items = f.max_items }))) ∙ spread c (contains_say here js k) (items_agree js f.places f.rest) (rules_say (sized d f.max_items))))))
       where
         most' : (k : MaybeSchema) (d : ListRules) (n : ℕ) → ((c && contains_say here js k) && rules_say d) ≡ true → d.max_items ≡ Some n → length js ≤ n

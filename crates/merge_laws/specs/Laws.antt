@@ -5,7 +5,8 @@ use Rattle.json_value.specs.Value.{Value, is_whole}
 use Rattle.schema_defs.specs.declared.InstanceType.{InstanceType}
 use Rattle.schema_defs.specs.declared.InstanceType.TheVariants.{Number}
 use Rattle.schema_defs.specs.Texts.{Relations, IsLawful}
-use Rattle.schema_defs.specs.Schema.{Types, one_type, many_types, Numbers, Plain, Schema, boolean, object, Same, no_same, same_value, Lists, no_lists, lists, Named, no_named, named, MaybeSchema, no_schema, the_schema, MaybeSchemas, no_list, the_list, Schemas, no_more, schema, schema_list, Places, no_items, each_item, by_place, Properties, no_properties, property, Definition, Document}
+use Rattle.schema_defs.specs.Schema.{Types, one_type, many_types, Numbers, Plain, Schema, Same, Lists, Named, MaybeSchema, MaybeSchemas, Schemas, schema_list, Places, Properties, Definition, Document}
+use Rattle.each_schema.specs.Each.{EachSchema, EachInSame, EachInLists, EachInNamed, EachInMaybe, EachInList, EachInAll, EachInPlaces, EachInProperties, EachInDefinitions, EachInDocument, of_any_size}
 use Rattle.schema_defs.specs.Admits.{admits}
 use Rattle.schema_defs.specs.Walks.{IsGuarded}
 use Rattle.merge_defs.specs.Outcome.{Note, Outcome, fault, never, answer, narrowed, widened, has_way}
@@ -40,50 +41,41 @@ ProperNumbers n = Given (λ m. 1 ≤ m) n.multiple_of
 abbrev pub ProperPlain : Plain → Type 0
 ProperPlain p = Given ProperTypes p.types × Given ProperNumbers p.numbers
 
-abbrev mutual
-  pub IsProper : Schema → Type 0
-  IsProper (boolean b) = Unit {0}
-  IsProper (object p ss ls ns) = ProperPlain p × ProperSame ss × ProperLists ls × ProperNamed ns
+abbrev pub AreKeywordsProper : Plain → Named → Type 0
+AreKeywordsProper p ns = ProperPlain p
 
-  pub ProperSame : Same → Type 0
-  ProperSame no_same = Unit {0}
-  ProperSame (same_value all any one none c) = ProperList all × ProperList any × ProperList one × ProperMaybe none
+abbrev pub IsProper : Schema → Type 0
+IsProper = EachSchema AreKeywordsProper of_any_size
 
-  pub ProperLists : Lists → Type 0
-  ProperLists no_lists = Unit {0}
-  ProperLists (lists p a c r) = ProperPlaces p × ProperMaybe a × ProperMaybe c
+abbrev pub ProperSame : Same → Type 0
+ProperSame = EachInSame AreKeywordsProper of_any_size
 
-  pub ProperNamed : Named → Type 0
-  ProperNamed no_named = Unit {0}
-  ProperNamed (named p q a n r) = ProperProperties p × ProperProperties q × ProperMaybe a × ProperMaybe n
+abbrev pub ProperLists : Lists → Type 0
+ProperLists = EachInLists AreKeywordsProper of_any_size
 
-  pub ProperMaybe : MaybeSchema → Type 0
-  ProperMaybe no_schema = Unit {0}
-  ProperMaybe (the_schema s) = IsProper s
+abbrev pub ProperNamed : Named → Type 0
+ProperNamed = EachInNamed AreKeywordsProper of_any_size
 
-  pub ProperList : MaybeSchemas → Type 0
-  ProperList no_list = Unit {0}
-  ProperList (the_list ss) = ProperAll ss
+abbrev pub ProperMaybe : MaybeSchema → Type 0
+ProperMaybe = EachInMaybe AreKeywordsProper of_any_size
 
-  pub ProperAll : Schemas → Type 0
-  ProperAll no_more = Unit {0}
-  ProperAll (schema s ss) = IsProper s × ProperAll ss
+abbrev pub ProperList : MaybeSchemas → Type 0
+ProperList = EachInList AreKeywordsProper of_any_size
 
-  pub ProperPlaces : Places → Type 0
-  ProperPlaces no_items = Unit {0}
-  ProperPlaces (each_item s) = IsProper s
-  ProperPlaces (by_place ss) = ProperAll ss
+abbrev pub ProperAll : Schemas → Type 0
+ProperAll = EachInAll AreKeywordsProper of_any_size
 
-  pub ProperProperties : Properties → Type 0
-  ProperProperties no_properties = Unit {0}
-  ProperProperties (property n s ps) = IsProper s × ProperProperties ps
+abbrev pub ProperPlaces : Places → Type 0
+ProperPlaces = EachInPlaces AreKeywordsProper of_any_size
+
+abbrev pub ProperProperties : Properties → Type 0
+ProperProperties = EachInProperties AreKeywordsProper of_any_size
 
 abbrev pub ProperDefinitions : List Definition → Type 0
-ProperDefinitions [] = Unit {0}
-ProperDefinitions (e ∷ es) = IsProper e.body × ProperDefinitions es
+ProperDefinitions = EachInDefinitions AreKeywordsProper of_any_size
 
 abbrev pub ProperDocument : Document → Type 0
-ProperDocument d = IsProper d.root × ProperDefinitions d.definitions
+ProperDocument = EachInDocument AreKeywordsProper of_any_size
 
 -- ---- the laws, in a document of either setting
 

@@ -17,10 +17,11 @@ use Rattle.convert_defs.specs.Row.{Part, row_parts}
 use Rattle.convert_defs.specs.Table.{row_of, target_of}
 use Rattle.convert_defs.specs.RootReference.{is_root, refers_to_root}
 use Rattle.convert_defs.specs.Convert.{entry_of, as_item, root_name}
-use Rattle.convert_defs.specs.Proper.{leads, IsProper, of_any_size, IsProperDocument}
+use Rattle.convert_defs.specs.Proper.{leads, IsProper, IsProperDocument}
+use Rattle.each_schema.specs.Each.{of_any_size}
 use Rattle.convert_defs.proofs.Bare.{none-some, some-same}
 use Rattle.convert_defs.proofs.Fine.{own, finding-fine}
-use Rattle.convert_defs.proofs.Inside.{parts-in}
+use Rattle.convert_defs.proofs.ProperParts.{parts-proper}
 use Rattle.convert_defs.proofs.Views.{AllParts}
 use Rattle.convert_walks.specs.Spot.{Spot}
 use Rattle.convert_walks.specs.Tree.{entry_at, definition_spot, root_spot, root_entry, definition_target, root_targets, table_of}
@@ -81,7 +82,7 @@ module _ (r : Relations) (d : Document) (most n : ℕ) (in_order : IsProperDocum
     asks-on : IsHandedOn r d most Is Asks
     asks-on = record {
       nothing = λ s g. tt;
-      to_parts = λ i o s h e. parts-in of_any_size d r s h;
+      to_parts = λ i o s h e. parts-proper of_any_size d r s h;
       by_row = λ i o s h e conv name x g. row-asks (May d k) (EndsIn k) refs conv s name (row_of r d s) (finding-fine (May d k) r d s (names-are-apart d s h)) x g;
       in_place = λ i o s h ps e t j.
           let y = standing-in_order d r most i o s ps e t j in_order h in
@@ -152,7 +153,7 @@ module _ (r : Relations) (d : Document) (most n : ℕ) (in_order : IsProperDocum
     said-on : IsHandedOn r d most Is (λ s e. OfEntry e)
     said-on = record {
       nothing = λ s. (tt, tt);
-      to_parts = λ i o s h e. parts-in of_any_size d r s h;
+      to_parts = λ i o s h e. parts-proper of_any_size d r s h;
       by_row = λ i o s h e conv name x. row-said conv name s h x;
       in_place = λ i o s h ps e t j. (standing-in_order d r most i o s ps e t j in_order h, λ u f. f);
     }

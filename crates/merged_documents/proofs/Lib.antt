@@ -3,7 +3,6 @@ pub mod Leaves
 pub mod Tables
 mod Types
 mod TenKeywords
-mod Reading
 pub mod Mergeable
 mod Leading
 mod RowsAsk

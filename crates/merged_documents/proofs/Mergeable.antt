@@ -18,7 +18,7 @@ use Rattle.merge_laws.specs.Laws.{ProperTypes, ProperNumbers, ProperPlain, Prope
 use Rattle.merged_documents.specs.Laws.{ReadDocumentsMayMerge}
 use Rattle.merged_documents.proofs.Types.{types-proper, multiple-proper}
 use Rattle.merged_documents.proofs.TenKeywords.{fifth-and-eighth}
-use Rattle.merged_documents.proofs.Reading.{document_has}
+use Rattle.schema_laws.proofs.Reading.{document_has}
 
 -- ---- keywords of an object
 

@@ -12,7 +12,7 @@ use Rattle.convert_defs.specs.RootReference.{refers_to_root}
 use Rattle.convert_defs.specs.Table.{row_of}
 use Rattle.convert_defs.specs.Proper.{IsProper, AllAreProper}
 use Rattle.convert_defs.proofs.Bare.{some-same}
-use Rattle.convert_defs.proofs.Inside.{parts-in}
+use Rattle.convert_defs.proofs.ProperParts.{parts-proper}
 use Rattle.merge_defs.specs.Outcome.{either}
 use Rattle.convert_walks.specs.Spot.{Spot}
 use Rattle.convert_walks.specs.Tree.{entry_at, definition_spot, root_spot, root_use, table_of}
@@ -48,7 +48,7 @@ module _ (r : Relations) (d : Document) (most n : ℕ) (proper : AllAreProper As
   deep-on : IsHandedOn r d most Is (λ s e. Deep e)
   deep-on = record {
     nothing = λ s. tt;
-    to_parts = λ i o s h e. parts-in AsksForFew d r s h;
+    to_parts = λ i o s h e. parts-proper AsksForFew d r s h;
     by_row = λ i o s h e conv name x. row_deep conv name (row_of r d s) (finding_shaped r d s h) x;
     in_place = λ i o s h ps e t j. (standing-proper d r most i o s ps e t j AsksForFew few-kept proper h, λ u f. f);
   }

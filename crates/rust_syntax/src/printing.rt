@@ -29,39 +29,42 @@ use token_trees::TokenStream;
 pub trait ToTokens {
     ghost tokens: { Self → List Tok };
 
+    /// The tree's tokens, appended one after another. Where memory runs out, some of them may be.
+    fn write(&self, out: &mut TokenStream) -> Result<(), AllocError>
+        ensures { OnOk result (stream out.new ≡ stream out.old ++ tokens self.now) };
+
     /// The tree's tokens, appended. Where memory runs out, none of them is.
     fn to_tokens(&self, out: &mut TokenStream) -> Result<(), AllocError>
         ensures ok { OnOk result (stream out.new ≡ stream out.old ++ tokens self.now) }
-        ensures err { OnErr result (stream out.new ≡ stream out.old) };
+        ensures err { OnErr result (stream out.new ≡ stream out.old) }
+    {
+        let mut printed = TokenStream::new(out.allocator());
+        self.write(&mut printed)?;
+        out.append(&mut printed)
+    }
 }
 
 impl ToTokens for DeriveInput {
     ghost tokens = { λ t. print_item (item_view t) };
 
-    fn to_tokens(&self, out: &mut TokenStream) -> Result<(), AllocError> {
-        let mut printed = TokenStream::new(out.allocator());
-        write_item(self, &mut printed)?;
-        out.append(&mut printed)
+    fn write(&self, out: &mut TokenStream) -> Result<(), AllocError> {
+        write_item(self, out)
     }
 }
 
 impl ToTokens for Attribute {
     ghost tokens = { λ t. print_attribute (attribute_view t) };
 
-    fn to_tokens(&self, out: &mut TokenStream) -> Result<(), AllocError> {
-        let mut printed = TokenStream::new(out.allocator());
-        write_attribute(self, &mut printed)?;
-        out.append(&mut printed)
+    fn write(&self, out: &mut TokenStream) -> Result<(), AllocError> {
+        write_attribute(self, out)
     }
 }
 
 impl ToTokens for Meta {
     ghost tokens = { λ t. print_meta (meta_view t) };
 
-    fn to_tokens(&self, out: &mut TokenStream) -> Result<(), AllocError> {
-        let mut printed = TokenStream::new(out.allocator());
-        write_meta(self, &mut printed)?;
-        out.append(&mut printed)
+    fn write(&self, out: &mut TokenStream) -> Result<(), AllocError> {
+        write_meta(self, out)
     }
 }
 
@@ -69,40 +72,32 @@ impl ToTokens for Meta {
 impl ToTokens for Data {
     ghost tokens = { λ t. print_body (body_view t) };
 
-    fn to_tokens(&self, out: &mut TokenStream) -> Result<(), AllocError> {
-        let mut printed = TokenStream::new(out.allocator());
-        write_body(self, &mut printed)?;
-        out.append(&mut printed)
+    fn write(&self, out: &mut TokenStream) -> Result<(), AllocError> {
+        write_body(self, out)
     }
 }
 
 impl ToTokens for Fields {
     ghost tokens = { λ t. print_fields (fields_view t) };
 
-    fn to_tokens(&self, out: &mut TokenStream) -> Result<(), AllocError> {
-        let mut printed = TokenStream::new(out.allocator());
-        write_fields(self, &mut printed)?;
-        out.append(&mut printed)
+    fn write(&self, out: &mut TokenStream) -> Result<(), AllocError> {
+        write_fields(self, out)
     }
 }
 
 impl ToTokens for Field {
     ghost tokens = { λ t. print_field (field_view t) };
 
-    fn to_tokens(&self, out: &mut TokenStream) -> Result<(), AllocError> {
-        let mut printed = TokenStream::new(out.allocator());
-        write_field(self, &mut printed)?;
-        out.append(&mut printed)
+    fn write(&self, out: &mut TokenStream) -> Result<(), AllocError> {
+        write_field(self, out)
     }
 }
 
 impl ToTokens for Variant {
     ghost tokens = { λ t. print_variant (variant_view t) };
 
-    fn to_tokens(&self, out: &mut TokenStream) -> Result<(), AllocError> {
-        let mut printed = TokenStream::new(out.allocator());
-        write_variant(self, &mut printed)?;
-        out.append(&mut printed)
+    fn write(&self, out: &mut TokenStream) -> Result<(), AllocError> {
+        write_variant(self, out)
     }
 }
 
@@ -111,91 +106,73 @@ impl ToTokens for Variant {
 impl ToTokens for Generics {
     ghost tokens = { λ t. print_angle (map param_view t.params.items) ++ print_where (map predicate_view t.where_clause.items) };
 
-    fn to_tokens(&self, out: &mut TokenStream) -> Result<(), AllocError> {
-        let mut printed = TokenStream::new(out.allocator());
-        write_angle_params(&self.params, &mut printed)?;
-        write_where(&self.where_clause, &mut printed)?;
-        out.append(&mut printed)
+    fn write(&self, out: &mut TokenStream) -> Result<(), AllocError> {
+        write_angle_params(&self.params, out)?;
+        write_where(&self.where_clause, out)
     }
 }
 
 impl ToTokens for GenericParam {
     ghost tokens = { λ t. print_param (param_view t) };
 
-    fn to_tokens(&self, out: &mut TokenStream) -> Result<(), AllocError> {
-        let mut printed = TokenStream::new(out.allocator());
-        write_param(self, &mut printed)?;
-        out.append(&mut printed)
+    fn write(&self, out: &mut TokenStream) -> Result<(), AllocError> {
+        write_param(self, out)
     }
 }
 
 impl ToTokens for WherePredicate {
     ghost tokens = { λ t. print_predicate (predicate_view t) };
 
-    fn to_tokens(&self, out: &mut TokenStream) -> Result<(), AllocError> {
-        let mut printed = TokenStream::new(out.allocator());
-        write_predicate(self, &mut printed)?;
-        out.append(&mut printed)
+    fn write(&self, out: &mut TokenStream) -> Result<(), AllocError> {
+        write_predicate(self, out)
     }
 }
 
 impl ToTokens for Bound {
     ghost tokens = { λ t. print_bound (bound_view t) };
 
-    fn to_tokens(&self, out: &mut TokenStream) -> Result<(), AllocError> {
-        let mut printed = TokenStream::new(out.allocator());
-        write_bound(self, &mut printed)?;
-        out.append(&mut printed)
+    fn write(&self, out: &mut TokenStream) -> Result<(), AllocError> {
+        write_bound(self, out)
     }
 }
 
 impl ToTokens for Ty {
     ghost tokens = { λ t. print_ty (ty t) };
 
-    fn to_tokens(&self, out: &mut TokenStream) -> Result<(), AllocError> {
-        let mut printed = TokenStream::new(out.allocator());
-        write_ty(self, &mut printed)?;
-        out.append(&mut printed)
+    fn write(&self, out: &mut TokenStream) -> Result<(), AllocError> {
+        write_ty(self, out)
     }
 }
 
 impl ToTokens for Path {
     ghost tokens = { λ t. print_path (path_view t) };
 
-    fn to_tokens(&self, out: &mut TokenStream) -> Result<(), AllocError> {
-        let mut printed = TokenStream::new(out.allocator());
-        write_path(self, &mut printed)?;
-        out.append(&mut printed)
+    fn write(&self, out: &mut TokenStream) -> Result<(), AllocError> {
+        write_path(self, out)
     }
 }
 
 impl ToTokens for PathSegment {
     ghost tokens = { λ t. print_segment (segment_view t) };
 
-    fn to_tokens(&self, out: &mut TokenStream) -> Result<(), AllocError> {
-        let mut printed = TokenStream::new(out.allocator());
-        write_segment(self, &mut printed)?;
-        out.append(&mut printed)
+    fn write(&self, out: &mut TokenStream) -> Result<(), AllocError> {
+        write_segment(self, out)
     }
 }
 
 impl ToTokens for PathArguments {
     ghost tokens = { λ t. print_arguments (arguments_view t) };
 
-    fn to_tokens(&self, out: &mut TokenStream) -> Result<(), AllocError> {
-        let mut printed = TokenStream::new(out.allocator());
-        write_arguments(self, &mut printed)?;
-        out.append(&mut printed)
+    fn write(&self, out: &mut TokenStream) -> Result<(), AllocError> {
+        write_arguments(self, out)
     }
 }
 
 impl ToTokens for GenericArgument {
     ghost tokens = { λ t. print_generic (generic_view t) };
 
-    fn to_tokens(&self, out: &mut TokenStream) -> Result<(), AllocError> {
-        let mut printed = TokenStream::new(out.allocator());
-        write_generic(self, &mut printed)?;
-        out.append(&mut printed)
+    fn write(&self, out: &mut TokenStream) -> Result<(), AllocError> {
+        write_generic(self, out)
     }
 }
 
@@ -203,59 +180,47 @@ impl ToTokens for GenericArgument {
 impl ToTokens for QSelf {
     ghost tokens = { λ t. print_qself (qself_view t) };
 
-    fn to_tokens(&self, out: &mut TokenStream) -> Result<(), AllocError> {
-        let mut printed = TokenStream::new(out.allocator());
-        write_qself(self, &mut printed)?;
-        out.append(&mut printed)
+    fn write(&self, out: &mut TokenStream) -> Result<(), AllocError> {
+        write_qself(self, out)
     }
 }
 
 impl ToTokens for Expr {
     ghost tokens = { λ t. print_expr (expr t) };
 
-    fn to_tokens(&self, out: &mut TokenStream) -> Result<(), AllocError> {
-        let mut printed = TokenStream::new(out.allocator());
-        write_expr(self, &mut printed)?;
-        out.append(&mut printed)
+    fn write(&self, out: &mut TokenStream) -> Result<(), AllocError> {
+        write_expr(self, out)
     }
 }
 
 impl ToTokens for ExprPath {
     ghost tokens = { λ t. print_expr_path (expr_path_view t) };
 
-    fn to_tokens(&self, out: &mut TokenStream) -> Result<(), AllocError> {
-        let mut printed = TokenStream::new(out.allocator());
-        write_expr_path(self, &mut printed)?;
-        out.append(&mut printed)
+    fn write(&self, out: &mut TokenStream) -> Result<(), AllocError> {
+        write_expr_path(self, out)
     }
 }
 
 impl ToTokens for Lifetime {
     ghost tokens = { λ t. print_lifetime (lifetime_view t) };
 
-    fn to_tokens(&self, out: &mut TokenStream) -> Result<(), AllocError> {
-        let mut printed = TokenStream::new(out.allocator());
-        write_lifetime(&mut printed, self)?;
-        out.append(&mut printed)
+    fn write(&self, out: &mut TokenStream) -> Result<(), AllocError> {
+        write_lifetime(out, self)
     }
 }
 
 impl ToTokens for Member {
     ghost tokens = { λ t. print_member (member_view t) ∷ [] };
 
-    fn to_tokens(&self, out: &mut TokenStream) -> Result<(), AllocError> {
-        let mut printed = TokenStream::new(out.allocator());
-        write_member(&mut printed, self)?;
-        out.append(&mut printed)
+    fn write(&self, out: &mut TokenStream) -> Result<(), AllocError> {
+        write_member(out, self)
     }
 }
 
 impl ToTokens for LitStr {
     ghost tokens = { λ t. print_lit_str (lit_str_view t) ∷ [] };
 
-    fn to_tokens(&self, out: &mut TokenStream) -> Result<(), AllocError> {
-        let mut printed = TokenStream::new(out.allocator());
-        write_lit_str(&mut printed, self)?;
-        out.append(&mut printed)
+    fn write(&self, out: &mut TokenStream) -> Result<(), AllocError> {
+        write_lit_str(out, self)
     }
 }

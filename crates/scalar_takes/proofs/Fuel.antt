@@ -24,11 +24,11 @@ led : (ts : List TargetEntry) → length (map (λ t. t.led_to) ts) ≡ length ts
 led [] = refl
 led (t ∷ ts) = ap suc (led ts)
 
-as_many : (xs : List (CodeTarget × Tree)) → length (map target_entry xs) ≡ length xs
+pub as_many : (xs : List (CodeTarget × Tree)) → length (map target_entry xs) ≡ length xs
 as_many [] = refl
 as_many (x ∷ xs) = ap suc (as_many xs)
 
-enough : (t : Table) (left : ℕ) → left ≡ length t.targets → left + (allowed t - left) ≡ allowed t
+pub enough : (t : Table) (left : ℕ) → left ≡ length t.targets → left + (allowed t - left) ≡ allowed t
 enough t left h =
     let a = led t.targets in
     let first = map (λ (e : TargetEntry). e.led_to) t.targets in

@@ -13,7 +13,7 @@ use Rattle.schema_defs.specs.Schema.{MaybeSchema, no_schema, the_schema, Propert
 use Rattle.schema_defs.specs.Layer.{Judge, maybe, property_at, is_given}
 use Rattle.schema_types.specs.View.{schema_view, properties_view}
 use Rattle.schema_types.specs.declared.schema.Schema.{Schema}
-use Rattle.schema_admission.specs.Sizes.{schema_size, maybe_size, properties_size}
+use Rattle.schema_defs.specs.Counts.{schema_nodes, maybe_nodes, properties_nodes}
 use Rattle.schema_admission.specs.Judging.{maybe_seen}
 use Rattle.json_value.specs.View.{members_of}
 
@@ -46,15 +46,15 @@ seen_given (Some s) = refl
 pub given_at : (n : List ℕ) (es : List (String Global × Schema)) → is_some (lookup (is_at (λ k. slice_cmp nat_cmp n (string_bytes k))) es) ≡ is_given (property_at n (properties_view es))
 given_at n es = seen_given (lookup (is_at (λ k. slice_cmp nat_cmp n (string_bytes k))) es) ∙ ap is_given (found_at n es)
 
-one_size : (b : Bool) (s : defs.Schema) (m : MaybeSchema) (k : ℕ) → maybe_size m ≤ k → maybe_size (cond b (the_schema s) m) ≤ schema_size s + k
+one_size : (b : Bool) (s : defs.Schema) (m : MaybeSchema) (k : ℕ) → maybe_nodes m ≤ k → maybe_nodes (cond b (the_schema s) m) ≤ schema_nodes s + k
 one_size true s m k h = omega arith
 one_size false s m k h = omega (arith, h)
 
-pub property_small : (n : List ℕ) (ps : Properties) → maybe_size (property_at n ps) ≤ properties_size ps
+pub property_small : (n : List ℕ) (ps : Properties) → maybe_nodes (property_at n ps) ≤ properties_nodes ps
 property_small n no_properties = omega arith
 property_small n (property k s ps) = one_size (bytes_eq n k) s _ _ (property_small n ps)
 
-pub unless_small : (b : Bool) (m : MaybeSchema) → maybe_size (cond b no_schema m) ≤ maybe_size m
+pub unless_small : (b : Bool) (m : MaybeSchema) → maybe_nodes (cond b no_schema m) ≤ maybe_nodes m
 unless_small true m = omega arith
 unless_small false m = omega arith
 

@@ -11,7 +11,7 @@ use Rattle.schema_defs.specs.Texts.{Relations}
 use Rattle.schema_defs.specs.Layer.{named_agree}
 use Rattle.schema_defs.specs.Admits.{admits, admits_with, admits-level, allowed, target, defined, defined_as, definition_name, is_root_reference, follows, follow, parts_of, member_parts}
 use Rattle.schema_types.specs.View.{kept_view}
-use Rattle.schema_admission.specs.Sizes.{schema_size, definitions_size, document_size}
+use Rattle.schema_defs.specs.Counts.{schema_nodes, definitions_nodes, nodes as document_nodes}
 use Rattle.schema_admission.specs.Judging.{named_member, rules_part}
 
 pub array_size : (x : Json) (vs : Vec Json Global) → x ≡ Array vs → items_size (items_of (items_view vs.items)) < value_size (kept_view x)
@@ -29,32 +29,32 @@ on_cond : (P : Definition → Type 0) (b : Bool) (s : Definition) (o : Option De
 on_cond P true s o h k = h
 on_cond P false s o h k = k
 
-weaker : (n m : ℕ) (o : Option Definition) → n ≤ m → On (λ e. schema_size e.body ≤ n) o → On (λ e. schema_size e.body ≤ m) o
+weaker : (n m : ℕ) (o : Option Definition) → n ≤ m → On (λ e. schema_nodes e.body ≤ n) o → On (λ e. schema_nodes e.body ≤ m) o
 weaker n m None le h = tt
 weaker n m (Some s) le h = omega (arith, le, h)
 
-found_in : (n : List ℕ) (ds : List Definition) → On (λ e. schema_size e.body ≤ definitions_size ds) (defined n ds)
+found_in : (n : List ℕ) (ds : List Definition) → On (λ e. schema_nodes e.body ≤ definitions_nodes ds) (defined n ds)
 found_in n [] = tt
 found_in n (e ∷ es) = on_cond _ (bytes_eq n e.name) e _ (omega arith) (weaker _ _ _ (omega arith) (found_in n es))
 
-bodies : (m : ℕ) (o : Option Definition) → On (λ e. schema_size e.body ≤ m) o → On (λ s. schema_size s ≤ m) (option_map (λ e. e.body) o)
+bodies : (m : ℕ) (o : Option Definition) → On (λ e. schema_nodes e.body ≤ m) o → On (λ s. schema_nodes s ≤ m) (option_map (λ e. e.body) o)
 bodies m None h = tt
 bodies m (Some e) h = h
 
-found_as : (d : Document) (o : Option (List ℕ)) → On (λ e. schema_size e.body ≤ document_size d) (defined_as d o)
+found_as : (d : Document) (o : Option (List ℕ)) → On (λ e. schema_nodes e.body ≤ document_nodes d) (defined_as d o)
 found_as d None = tt
 found_as d (Some n) = weaker _ _ _ (omega arith) (found_in n d.definitions)
 
-target_cond : (d : Document) (b : Bool) (o : Option Schema) → On (λ s. schema_size s ≤ document_size d) o → On (λ s. schema_size s ≤ document_size d) (cond b (Some d.root) o)
+target_cond : (d : Document) (b : Bool) (o : Option Schema) → On (λ s. schema_nodes s ≤ document_nodes d) o → On (λ s. schema_nodes s ≤ document_nodes d) (cond b (Some d.root) o)
 target_cond d true o h = omega arith
 target_cond d false o h = h
 
-target_in : (d : Document) (q : List ℕ) → On (λ s. schema_size s ≤ document_size d) (target d q)
+target_in : (d : Document) (q : List ℕ) → On (λ s. schema_nodes s ≤ document_nodes d) (target d q)
 target_in d q = target_cond d (is_root_reference q) _ (bodies _ _ (found_as d (definition_name q)))
 
 -- the target of a reference is no larger than the document
-pub target_size : (d : Document) (q : List ℕ) (s : Schema) → target d q ≡ Some s → schema_size s ≤ document_size d
-target_size d q s e = subst (On (λ s. schema_size s ≤ document_size d)) e (target_in d q)
+pub target_size : (d : Document) (q : List ℕ) (s : Schema) → target d q ≡ Some s → schema_nodes s ≤ document_nodes d
+target_size d q s e = subst (On (λ s. schema_nodes s ≤ document_nodes d)) e (target_in d q)
 
 -- where all references are allowed
 pub anew_admits : (r : Relations) (d : Document) (v : Value) (n : ℕ) (s : Schema) → n ≡ allowed d → admits_with r d n v s ≡ admits r d v s

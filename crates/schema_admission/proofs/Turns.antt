@@ -9,7 +9,7 @@ use Rattle.serde_json.specs.declared.value.Value.{Value as Json}
 use Rattle.json_value.specs.Value.{Value, Items, item, no_items, item_count}
 use Rattle.json_value.specs.View.{items_of}
 use Rattle.schema_defs.specs.Schema.{Schema, Schemas, no_more, schema, schemas, the_list, the_schema, Document, MaybeSchema}
-use Rattle.schema_admission.specs.Sizes.{schemas_size, maybe_size}
+use Rattle.schema_defs.specs.Counts.{schemas_nodes, maybe_nodes}
 use Rattle.schema_defs.specs.Texts.{Relations}
 use Rattle.schema_defs.specs.Layer.{Judge, Parts, judge, by_places, maybe, judge_all, judge_count, judge_any}
 use Rattle.schema_defs.specs.Admits.{admits, item_judges, parts_of, follows}
@@ -113,7 +113,7 @@ places_start [] (schema s ss) rest = refl
 places_start (j ∷ js) no_more rest = places_rest (j ∷ js) rest 0
 places_start (j ∷ js) (schema s ss) rest = ap (λ b. j s && b) (places_start js ss rest ∙ sym (places_count js s ss rest 0))
 
-pub place_small : (ss : Schemas) (rest : MaybeSchema) (n b : ℕ) → schemas_size ss ≤ b → maybe_size rest ≤ b → maybe_size (place_schema ss rest n) ≤ b
+pub place_small : (ss : Schemas) (rest : MaybeSchema) (n b : ℕ) → schemas_nodes ss ≤ b → maybe_nodes rest ≤ b → maybe_nodes (place_schema ss rest n) ≤ b
 place_small no_more rest n b h k = k
 place_small (schema s ss) rest zero b h k = omega (arith, h)
 place_small (schema s ss) rest (suc n) b h k = place_small ss rest n b (omega (arith, h)) k

@@ -20,7 +20,7 @@ use Rattle.schema_types.specs.declared.schema.Subschemas.{Subschemas, out-Subsch
 use Rattle.schema_types.specs.declared.schema.ArrayValidation.{ArrayValidation, out-ArrayValidation, fold_out-ArrayValidation}
 use Rattle.schema_types.specs.declared.schema.ObjectValidation.{ObjectValidation, out-ObjectValidation, fold_out-ObjectValidation}
 use Rattle.schema_types.specs.declared.schema.Items.{Items, One as One', Many, the_lemmas as items_lemmas}
-use Rattle.schema_admission.specs.Sizes.{schema_size, schemas_size, same_size, lists_size, named_size, maybe_size, maybes_size, places_size, properties_size}
+use Rattle.schema_defs.specs.Counts.{schema_nodes, schemas_nodes, same_nodes, lists_nodes, named_nodes, maybe_nodes, maybe_list_nodes, places_nodes, properties_nodes}
 use Rattle.schema_admission.specs.Judging.{kind_agrees, plain_part, reference_agrees, same_agrees, list_agrees, negation_agrees, named_member, rules_part}
 use Rattle.schema_admission.specs.declared.wanted.Wanted.{Wanted}
 use Rattle.schema_admission.specs.declared.wanted.Wanted.TheVariants.{All, Any, One}
@@ -67,8 +67,8 @@ object_view-out o =
     fold_out-SchemaObject Places Schema Lists Named Schema Same items_step schema_step array_step members_step object_step subschemas_step o
     ∙ (λ i. object (plain_of o) (same_mapped x.subschemas i) (lists_mapped x.array i) (named_mapped x.object i))
 
-pub object_size : (o : SchemaObject) → schema_size (object_view o) ≡ 1 + same_size (same_part o) + lists_size (lists_part o) + named_size (named_part o)
-object_size o = ap schema_size (object_view-out o)
+pub object_size : (o : SchemaObject) → schema_nodes (object_view o) ≡ 1 + same_nodes (same_part o) + lists_nodes (lists_part o) + named_nodes (named_part o)
+object_size o = ap schema_nodes (object_view-out o)
 
 of_kind : (r : Relations) (p : Plain) (v : Value) → of_kind_agrees r p v ≡ kind_agrees r p.numbers p.texts p.format v
 of_kind r p null = refl
@@ -132,10 +132,10 @@ pub same-out : (r : Relations) (d : defs.Document) (n : ℕ) (v : Value) (o : Op
     && list_agrees r d One n v (maybe_list_view (option_map (λ v. v.items) (out-Subschemas s).one_of)) && negation_agrees r d n v (maybe_view (out-Subschemas s).not))
 same-out r d n v o s e = ap (λ p. same_agrees r d n v (same_of (option_map subschemas_view p))) e ∙ ap (same_agrees r d n v) (subschemas_view-out s)
 
-pub same_small : (o : Option Subschemas) (s : Subschemas) → o ≡ Some s → same_size (same_of (option_map subschemas_view o))
-    ≡ maybes_size (maybe_list_view (option_map (λ v. v.items) (out-Subschemas s).all_of)) + maybes_size (maybe_list_view (option_map (λ v. v.items) (out-Subschemas s).any_of))
-    + maybes_size (maybe_list_view (option_map (λ v. v.items) (out-Subschemas s).one_of)) + maybe_size (maybe_view (out-Subschemas s).not)
-same_small o s e = ap (λ p. same_size (same_of (option_map subschemas_view p))) e ∙ ap same_size (subschemas_view-out s)
+pub same_small : (o : Option Subschemas) (s : Subschemas) → o ≡ Some s → same_nodes (same_of (option_map subschemas_view o))
+    ≡ maybe_list_nodes (maybe_list_view (option_map (λ v. v.items) (out-Subschemas s).all_of)) + maybe_list_nodes (maybe_list_view (option_map (λ v. v.items) (out-Subschemas s).any_of))
+    + maybe_list_nodes (maybe_list_view (option_map (λ v. v.items) (out-Subschemas s).one_of)) + maybe_nodes (maybe_view (out-Subschemas s).not)
+same_small o s e = ap (λ p. same_nodes (same_of (option_map subschemas_view p))) e ∙ ap same_nodes (subschemas_view-out s)
 
 regrouped : (a b w u : Bool) → (a && b && w && u) ≡ (a && b && (w && u))
 regrouped true true w u = refl
@@ -157,20 +157,20 @@ lists-out a vs js n e =
     && (within (out-ArrayValidation a).min_items (out-ArrayValidation a).max_items k && if_given (λ u. not u || all_distinct (items_of (seen_items vs))) (out-ArrayValidation a).unique_items)) (e ∙ items_counted vs)
     ∙ sym (ap (lists_agree (items_of (seen_items vs)) js) (array_view-out a))
 
-pub array_small : (a : ArrayValidation) → lists_size (array_view a)
-    ≡ places_size (places_of (option_map items_view (out-ArrayValidation a).items)) + maybe_size (maybe_view (out-ArrayValidation a).additional_items) + maybe_size (maybe_view (out-ArrayValidation a).contains)
-array_small a = ap lists_size (array_view-out a)
+pub array_small : (a : ArrayValidation) → lists_nodes (array_view a)
+    ≡ places_nodes (places_of (option_map items_view (out-ArrayValidation a).items)) + maybe_nodes (maybe_view (out-ArrayValidation a).additional_items) + maybe_nodes (maybe_view (out-ArrayValidation a).contains)
+array_small a = ap lists_nodes (array_view-out a)
 
-pub members_small : (o : ObjectValidation) → named_size (members_view o)
-    ≡ properties_size (properties_view (out-ObjectValidation o).properties.entries) + properties_size (properties_view (out-ObjectValidation o).pattern_properties.entries)
-    + maybe_size (maybe_view (out-ObjectValidation o).additional_properties) + maybe_size (maybe_view (out-ObjectValidation o).property_names)
-members_small o = ap named_size (members_view-out o)
+pub members_small : (o : ObjectValidation) → named_nodes (members_view o)
+    ≡ properties_nodes (properties_view (out-ObjectValidation o).properties.entries) + properties_nodes (properties_view (out-ObjectValidation o).pattern_properties.entries)
+    + maybe_nodes (maybe_view (out-ObjectValidation o).additional_properties) + maybe_nodes (maybe_view (out-ObjectValidation o).property_names)
+members_small o = ap named_nodes (members_view-out o)
 
 schema_view-Object : (b : Box SchemaObject Global) → schema_view (Object b) ≡ object_view b.value
 schema_view-Object b = search (rules, the_lemmas)
 
-pub object_less : (s : tree.Schema) (b : Box SchemaObject Global) → s ≡ Object b → schema_size (schema_view s) ≡ schema_size (object_view b.value)
-object_less s b e = ap (λ x. schema_size (schema_view x)) e ∙ ap schema_size (schema_view-Object b)
+pub object_less : (s : tree.Schema) (b : Box SchemaObject Global) → s ≡ Object b → schema_nodes (schema_view s) ≡ schema_nodes (object_view b.value)
+object_less s b e = ap (λ x. schema_nodes (schema_view x)) e ∙ ap schema_nodes (schema_view-Object b)
 
 -- what binds one member
 pub member-out : (r : Relations) (d : defs.Document) (o : ObjectValidation) (m : MemberPart) → named_member r d (members_view o) m
@@ -190,14 +190,14 @@ items_view-One b = search (rules, items_lemmas)
 items_view-Many : (v : Vec tree.Schema Global) → items_view (Many v) ≡ by_place (defs.schemas (schemas_view v.items))
 items_view-Many v = search (rules, items_lemmas)
 
-pub one_less : (i : Items) (b : Box tree.Schema Global) → i ≡ One' b → places_size (items_view i) ≡ schema_size (schema_view b.value)
-one_less i b e = ap (λ x. places_size (items_view x)) e ∙ ap places_size (items_view-One b)
+pub one_less : (i : Items) (b : Box tree.Schema Global) → i ≡ One' b → places_nodes (items_view i) ≡ schema_nodes (schema_view b.value)
+one_less i b e = ap (λ x. places_nodes (items_view x)) e ∙ ap places_nodes (items_view-One b)
 
-pub many_less : (i : Items) (v : Vec tree.Schema Global) → i ≡ Many v → places_size (items_view i) ≡ schemas_size (defs.schemas (schemas_view v.items))
-many_less i v e = ap (λ x. places_size (items_view x)) e ∙ ap places_size (items_view-Many v)
+pub many_less : (i : Items) (v : Vec tree.Schema Global) → i ≡ Many v → places_nodes (items_view i) ≡ schemas_nodes (defs.schemas (schemas_view v.items))
+many_less i v e = ap (λ x. places_nodes (items_view x)) e ∙ ap places_nodes (items_view-Many v)
 
-pub list_small : (o : Option (Vec tree.Schema Global)) (v : Vec tree.Schema Global) → o ≡ Some v → maybes_size (maybe_list_view (option_map (λ v. v.items) o)) ≡ schemas_size (defs.schemas (schemas_view v.items))
-list_small o v e = ap (λ p. maybes_size (maybe_list_view (option_map (λ v. v.items) p))) e
+pub list_small : (o : Option (Vec tree.Schema Global)) (v : Vec tree.Schema Global) → o ≡ Some v → maybe_list_nodes (maybe_list_view (option_map (λ v. v.items) o)) ≡ schemas_nodes (defs.schemas (schemas_view v.items))
+list_small o v e = ap (λ p. maybe_list_nodes (maybe_list_view (option_map (λ v. v.items) p))) e
 
 pub list_there : (r : Relations) (d : defs.Document) (w : Wanted) (n : ℕ) (x : Value) (o : Option (Vec tree.Schema Global)) (v : Vec tree.Schema Global) → o ≡ Some v
     → list_agrees r d w n x (defs.the_list (defs.schemas (schemas_view v.items))) ≡ list_agrees r d w n x (maybe_list_view (option_map (λ v. v.items) o))

@@ -10,7 +10,7 @@ ghost use Rattle.schema_defs.specs.Layer.{by_places as by_places_in, contains_ag
 ghost use Rattle.schema_defs.specs.Admits.{admits as admits_in, admits_with, allowed as allowed_in, item_judges, parts_of};
 ghost use Rattle.schema_types.specs.View.{array_view, items_view, kept_view, lists_of, maybe_list_view, maybe_view, members_view, named_of, object_view, places_of, properties_view, same_of, schema_view, schemas_view, subschemas_view};
 ghost use Rattle.schema_types.specs.DocumentView.{document_view};
-ghost use Rattle.schema_admission.specs.Sizes.{document_size, lists_size, maybe_size, maybes_size, named_size, places_size, properties_size, same_size, schema_size, schemas_size};
+ghost use Rattle.schema_defs.specs.Counts.{nodes as document_nodes, lists_nodes, maybe_nodes, maybe_list_nodes, named_nodes, places_nodes, properties_nodes, same_nodes, schema_nodes, schemas_nodes};
 ghost use Rattle.schema_admission.specs.Judging.{admitted_count, list_agrees as list_says, maybe_seen, member_part, named_member, negation_agrees, reference_agrees, same_agrees};
 
 use crate::list::{
@@ -60,7 +60,7 @@ fn admits_part<T: Texts>(
     schema: &Schema,
     value: &Value,
 ) -> Result<bool, TextFault>
-    requires { schema_size (schema_view schema.now) ≤ document_size (document_view document.now) }
+    requires { schema_nodes (schema_view schema.now) ≤ document_nodes (document_view document.now) }
     ensures answer { IfOk result (λ b. b ≡ admits_in (T.relations texts.old) (document_view document.now) (kept_view value.now) (schema_view schema.now)) }
     ensures keeps { T.relations texts.new ≡ T.relations texts.old }
     ensures failed { IsErrOf result TextFault.Failed → Rises (T.faults texts.old) (T.faults texts.new) }
@@ -82,7 +82,7 @@ fn judge<T: Texts>(
     schema: &Schema,
     value: &Value,
 ) -> Result<bool, TextFault>
-    requires within { schema_size (schema_view schema.now) ≤ document_size (document_view document.now) }
+    requires within { schema_nodes (schema_view schema.now) ≤ document_nodes (document_view document.now) }
     requires spent { left ≤ allowed_in (document_view document.now) }
     ensures answer { IfOk result (λ b. b ≡ admits_with (T.relations texts.old) (document_view document.now) left (kept_view value.now) (schema_view schema.now)) }
     ensures keeps { T.relations texts.new ≡ T.relations texts.old }
@@ -111,7 +111,7 @@ fn judge_object<T: Texts>(
     object: &SchemaObject,
     value: &Value,
 ) -> Result<bool, TextFault>
-    requires within { schema_size (object_view object.now) ≤ document_size (document_view document.now) }
+    requires within { schema_nodes (object_view object.now) ≤ document_nodes (document_view document.now) }
     requires spent { left ≤ allowed_in (document_view document.now) }
     ensures answer { IfOk result (λ b. b ≡ admits_with (T.relations texts.old) (document_view document.now) left (kept_view value.now) (object_view object.now)) }
     ensures keeps { T.relations texts.new ≡ T.relations texts.old }
@@ -190,8 +190,8 @@ fn parts_agree<T: Texts>(
     object: &Option<ObjectValidation>,
     value: &Value,
 ) -> Result<bool, TextFault>
-    requires lists { lists_size (lists_of (option_map array_view array.now)) ≤ document_size (document_view document.now) }
-    requires members { named_size (named_of (option_map members_view object.now)) ≤ document_size (document_view document.now) }
+    requires lists { lists_nodes (lists_of (option_map array_view array.now)) ≤ document_nodes (document_view document.now) }
+    requires members { named_nodes (named_of (option_map members_view object.now)) ≤ document_nodes (document_view document.now) }
     ensures answer { IfOk result (λ b. b ≡ parts_say (T.relations texts.old) (kept_view value.now)
         (parts_of (T.relations texts.old) (document_view document.now) (kept_view value.now)) (lists_of (option_map array_view array.now)) (named_of (option_map members_view object.now))) }
     ensures keeps { T.relations texts.new ≡ T.relations texts.old }
@@ -221,7 +221,7 @@ fn judge_same<T: Texts>(
     subschemas: &Option<Subschemas>,
     value: &Value,
 ) -> Result<bool, TextFault>
-    requires within { same_size (same_of (option_map subschemas_view subschemas.now)) ≤ document_size (document_view document.now) }
+    requires within { same_nodes (same_of (option_map subschemas_view subschemas.now)) ≤ document_nodes (document_view document.now) }
     requires spent { left ≤ allowed_in (document_view document.now) }
     ensures answer { IfOk result (λ b. b ≡ same_agrees (T.relations texts.old) (document_view document.now) left (kept_view value.now) (same_of (option_map subschemas_view subschemas.now))) }
     ensures keeps { T.relations texts.new ≡ T.relations texts.old }
@@ -276,7 +276,7 @@ fn list_agrees<T: Texts>(
     schemas: &Option<Vec<Schema>>,
     value: &Value,
 ) -> Result<bool, TextFault>
-    requires within { maybes_size (maybe_list_view (option_map (λ v. v.items) schemas.now)) ≤ document_size (document_view document.now) }
+    requires within { maybe_list_nodes (maybe_list_view (option_map (λ v. v.items) schemas.now)) ≤ document_nodes (document_view document.now) }
     requires spent { left ≤ allowed_in (document_view document.now) }
     ensures answer { IfOk result (λ b. b ≡ list_says (T.relations texts.old) (document_view document.now) wanted left (kept_view value.now) (maybe_list_view (option_map (λ v. v.items) schemas.now))) }
     ensures keeps { T.relations texts.new ≡ T.relations texts.old }
@@ -304,7 +304,7 @@ fn not_agrees<T: Texts>(
     not: &Option<Box<Schema>>,
     value: &Value,
 ) -> Result<bool, TextFault>
-    requires within { maybe_size (maybe_view not.now) ≤ document_size (document_view document.now) }
+    requires within { maybe_nodes (maybe_view not.now) ≤ document_nodes (document_view document.now) }
     requires spent { left ≤ allowed_in (document_view document.now) }
     ensures answer { IfOk result (λ b. b ≡ negation_agrees (T.relations texts.old) (document_view document.now) left (kept_view value.now) (maybe_view not.now)) }
     ensures keeps { T.relations texts.new ≡ T.relations texts.old }
@@ -330,7 +330,7 @@ fn maybe_agrees<T: Texts>(
     schema: Option<&Schema>,
     value: &Value,
 ) -> Result<bool, TextFault>
-    requires { maybe_size (maybe_seen (option_copied schema)) ≤ document_size (document_view document.now) }
+    requires { maybe_nodes (maybe_seen (option_copied schema)) ≤ document_nodes (document_view document.now) }
     ensures answer { IfOk result (λ b. b ≡ maybe (admits_in (T.relations texts.old) (document_view document.now) (kept_view value.now)) (maybe_seen (option_copied schema.entry))) }
     ensures keeps { T.relations texts.new ≡ T.relations texts.old }
     ensures failed { IsErrOf result TextFault.Failed → Rises (T.faults texts.old) (T.faults texts.new) }
@@ -354,7 +354,7 @@ fn lists_agree<T: Texts>(
     array: &ArrayValidation,
     values: &Vec<Value>,
 ) -> Result<bool, TextFault>
-    requires { lists_size (array_view array.now) ≤ document_size (document_view document.now) }
+    requires { lists_nodes (array_view array.now) ≤ document_nodes (document_view document.now) }
     ensures answer { let xs = items_of (items_seen values.now.items) in
         IfOk result (λ b. b ≡ lists_say xs (item_judges (T.relations texts.old) (document_view document.now) xs) (array_view array.now)) }
     ensures keeps { T.relations texts.new ≡ T.relations texts.old }
@@ -386,8 +386,8 @@ fn items_agree<T: Texts>(
     rest: &Option<Box<Schema>>,
     values: &Vec<Value>,
 ) -> Result<bool, TextFault>
-    requires places { places_size (places_of (option_map items_view items.now)) ≤ document_size (document_view document.now) }
-    requires rest { maybe_size (maybe_view rest.now) ≤ document_size (document_view document.now) }
+    requires places { places_nodes (places_of (option_map items_view items.now)) ≤ document_nodes (document_view document.now) }
+    requires rest { maybe_nodes (maybe_view rest.now) ≤ document_nodes (document_view document.now) }
     ensures answer { IfOk result (λ b. b ≡ items_say (item_judges (T.relations texts.old) (document_view document.now) (items_of (items_seen values.now.items)))
         (places_of (option_map items_view items.now)) (maybe_view rest.now)) }
     ensures keeps { T.relations texts.new ≡ T.relations texts.old }
@@ -418,7 +418,7 @@ fn contains_agrees<T: Texts>(
     contains: &Option<Box<Schema>>,
     values: &Vec<Value>,
 ) -> Result<bool, TextFault>
-    requires { maybe_size (maybe_view contains.now) ≤ document_size (document_view document.now) }
+    requires { maybe_nodes (maybe_view contains.now) ≤ document_nodes (document_view document.now) }
     ensures answer { IfOk result (λ b. b ≡ contains_says (item_judges (T.relations texts.old) (document_view document.now) (items_of (items_seen values.now.items))) (maybe_view contains.now)) }
     ensures keeps { T.relations texts.new ≡ T.relations texts.old }
     ensures failed { IsErrOf result TextFault.Failed → Rises (T.faults texts.old) (T.faults texts.new) }
@@ -443,7 +443,7 @@ fn count_admitted<T: Texts>(
     schema: &Schema,
     values: &Vec<Value>,
 ) -> Result<usize, TextFault>
-    requires { schema_size (schema_view schema.now) ≤ document_size (document_view document.now) }
+    requires { schema_nodes (schema_view schema.now) ≤ document_nodes (document_view document.now) }
     ensures answer { IfOk result (λ n. n ≡ admitted_count (T.relations texts.old) (document_view document.now) (schema_view schema.now) (items_of (items_seen values.now.items))) }
     ensures keeps { T.relations texts.new ≡ T.relations texts.old }
     ensures failed { IsErrOf result TextFault.Failed → Rises (T.faults texts.old) (T.faults texts.new) }
@@ -468,8 +468,8 @@ fn by_places<T: Texts>(
     rest: &Option<Box<Schema>>,
     values: &Vec<Value>,
 ) -> Result<bool, TextFault>
-    requires places { schemas_size (schemas_in (schemas_view schemas.now.items)) ≤ document_size (document_view document.now) }
-    requires rest { maybe_size (maybe_view rest.now) ≤ document_size (document_view document.now) }
+    requires places { schemas_nodes (schemas_in (schemas_view schemas.now.items)) ≤ document_nodes (document_view document.now) }
+    requires rest { maybe_nodes (maybe_view rest.now) ≤ document_nodes (document_view document.now) }
     ensures answer { IfOk result (λ b. b ≡ by_places_in (item_judges (T.relations texts.old) (document_view document.now) (items_of (items_seen values.now.items)))
         (schemas_in (schemas_view schemas.now.items)) (maybe_view rest.now)) }
     ensures keeps { T.relations texts.new ≡ T.relations texts.old }
@@ -494,7 +494,7 @@ fn members_agree<T: Texts>(
     object: &ObjectValidation,
     members: &Map<String, Value>,
 ) -> Result<bool, TextFault>
-    requires { named_size (members_view object.now) ≤ document_size (document_view document.now) }
+    requires { named_nodes (members_view object.now) ≤ document_nodes (document_view document.now) }
     ensures answer { let ms = members_of (members_seen members.now.entries) in
         IfOk result (λ b. b ≡ named_agree (T.relations texts.old) ms (parts_of (T.relations texts.old) (document_view document.now) (object_value ms)) (members_view object.now)) }
     ensures keeps { T.relations texts.new ≡ T.relations texts.old }
@@ -522,7 +522,7 @@ fn member_agrees<T: Texts>(
     name: &str,
     value: &Value,
 ) -> Result<bool, TextFault>
-    requires { named_size (members_view object.now) ≤ document_size (document_view document.now) }
+    requires { named_nodes (members_view object.now) ≤ document_nodes (document_view document.now) }
     ensures answer { IfOk result (λ b. b ≡ named_member (T.relations texts.old) (document_view document.now) (members_view object.now)
         (member_part (T.relations texts.old) (document_view document.now) name.now (kept_view value.now))) }
     ensures keeps { T.relations texts.new ≡ T.relations texts.old }
@@ -555,7 +555,7 @@ fn patterns_agree<T: Texts>(
     name: &str,
     value: &Value,
 ) -> Result<bool, TextFault>
-    requires { properties_size (properties_view patterns.now.entries) ≤ document_size (document_view document.now) }
+    requires { properties_nodes (properties_view patterns.now.entries) ≤ document_nodes (document_view document.now) }
     ensures answer { IfOk result (λ b. b ≡ patterns_say (λ q. (T.relations texts.old).matches q name.now)
         (admits_in (T.relations texts.old) (document_view document.now) (kept_view value.now)) (properties_view patterns.now.entries)) }
     ensures keeps { T.relations texts.new ≡ T.relations texts.old }

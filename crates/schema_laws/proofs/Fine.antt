@@ -3,60 +3,53 @@ use Rattle.std.proofs.Common.{◌≡◌, ℕ, suc, List, [], ◌∷◌, Option, 
 use Rattle.std.specs.Prelude.{codes, if◌then◌else◌}
 use Rattle.json_value.specs.Value.{same_bool}
 use Rattle.schema_defs.specs.Location.{Step, Location, place}
-use Rattle.schema_defs.specs.Schema.{Schema, boolean, object, Same, no_same, same_value, Lists, no_lists, lists, Named, no_named, named, MaybeSchema, no_schema, the_schema, MaybeSchemas, no_list, the_list, Schemas, no_more, schema, Places, no_items, each_item, by_place, Properties, no_properties, property, Definition, Document}
+use Rattle.schema_defs.specs.Schema.{Plain, Schema, boolean, object, Same, no_same, same_value, Lists, no_lists, lists, Named, no_named, named, MaybeSchema, no_schema, the_schema, MaybeSchemas, no_list, the_list, Schemas, no_more, schema, Places, no_items, each_item, by_place, Properties, no_properties, property, Definition, Document}
 use Rattle.schema_defs.specs.Layer.{property_at}
 use Rattle.schema_defs.specs.Admits.{defined, definition_word}
 use Rattle.schema_defs.specs.Children.{Node, at_document, at_definitions, at_schema, at_list, at_names, maybe_node, list_node, places_node, same_node, lists_node, named_node, either_node, schema_node, schema_in, definition_node, node_at, along, node_schema, schema_at, reference_of}
+use Rattle.each_schema.specs.Each.{EachSchema, EachInSame, EachInLists, EachInNamed, EachInMaybe, EachInList, EachInAll, EachInPlaces, EachInProperties, EachInDefinitions, EachInDocument, of_any_size}
 use Rattle.schema_laws.proofs.Options.{IfThere, chosen, followed}
 
 module _ (p : List ℕ → Bool) where
   abbrev pub Passes : Option (List ℕ) → Type 0
   Passes o = IfThere (λ q. p q ≡ true) o
 
-  abbrev mutual
-    pub Fine : Schema → Type 0
-    Fine (boolean b) = Unit {0}
-    Fine (object r ss ls ns) = Passes r.reference × FineSame ss × FineLists ls × FineNamed ns
+  -- the reference of each schema passes
+  abbrev pub HasPassing : Plain → Named → Type 0
+  HasPassing r ns = Passes r.reference
 
-    pub FineSame : Same → Type 0
-    FineSame no_same = Unit {0}
-    FineSame (same_value all any one none conditional) = FineList all × FineList any × FineList one × FineMaybe none
+  abbrev pub Fine : Schema → Type 0
+  Fine = EachSchema HasPassing of_any_size
 
-    pub FineLists : Lists → Type 0
-    FineLists no_lists = Unit {0}
-    FineLists (lists places rest contains rules) = FinePlaces places × FineMaybe rest × FineMaybe contains
+  abbrev pub FineSame : Same → Type 0
+  FineSame = EachInSame HasPassing of_any_size
 
-    pub FineNamed : Named → Type 0
-    FineNamed no_named = Unit {0}
-    FineNamed (named props patterns rest names rules) = FineNames props × FineNames patterns × FineMaybe rest × FineMaybe names
+  abbrev pub FineLists : Lists → Type 0
+  FineLists = EachInLists HasPassing of_any_size
 
-    pub FineMaybe : MaybeSchema → Type 0
-    FineMaybe no_schema = Unit {0}
-    FineMaybe (the_schema s) = Fine s
+  abbrev pub FineNamed : Named → Type 0
+  FineNamed = EachInNamed HasPassing of_any_size
 
-    pub FineList : MaybeSchemas → Type 0
-    FineList no_list = Unit {0}
-    FineList (the_list ss) = FineAll ss
+  abbrev pub FineMaybe : MaybeSchema → Type 0
+  FineMaybe = EachInMaybe HasPassing of_any_size
 
-    pub FineAll : Schemas → Type 0
-    FineAll no_more = Unit {0}
-    FineAll (schema s ss) = Fine s × FineAll ss
+  abbrev pub FineList : MaybeSchemas → Type 0
+  FineList = EachInList HasPassing of_any_size
 
-    pub FinePlaces : Places → Type 0
-    FinePlaces no_items = Unit {0}
-    FinePlaces (each_item s) = Fine s
-    FinePlaces (by_place ss) = FineAll ss
+  abbrev pub FineAll : Schemas → Type 0
+  FineAll = EachInAll HasPassing of_any_size
 
-    pub FineNames : Properties → Type 0
-    FineNames no_properties = Unit {0}
-    FineNames (property k s ps) = Fine s × FineNames ps
+  abbrev pub FinePlaces : Places → Type 0
+  FinePlaces = EachInPlaces HasPassing of_any_size
+
+  abbrev pub FineNames : Properties → Type 0
+  FineNames = EachInProperties HasPassing of_any_size
 
   abbrev pub FineDefinitions : List Definition → Type 0
-  FineDefinitions [] = Unit {0}
-  FineDefinitions (e ∷ es) = Fine e.body × FineDefinitions es
+  FineDefinitions = EachInDefinitions HasPassing of_any_size
 
   abbrev pub FineDocument : Document → Type 0
-  FineDocument d = Fine d.root × FineDefinitions d.definitions
+  FineDocument = EachInDocument HasPassing of_any_size
 
   -- ---- where steps lead
 

@@ -1,6 +1,7 @@
 pub mod Options
 pub mod Fine
 pub mod Reading
+pub mod Passing
 pub mod Resolved
 pub mod Stand
 pub mod Told

@@ -8,7 +8,7 @@ use Rattle.schema_faults.proofs.Targets.{leads_to_targets}
 use Rattle.schema_laws.specs.Laws.{ReferencesAreResolved}
 use Rattle.schema_laws.proofs.Options.{IfThere}
 use Rattle.schema_laws.proofs.Fine.{FineDocument, each_passes}
-use Rattle.schema_laws.proofs.Reading.{document_fine}
+use Rattle.schema_laws.proofs.Passing.{document_fine}
 
 pub references_are_resolved : ReferencesAreResolved
 references_are_resolved setting v d e b l s q f g =

@@ -156,20 +156,20 @@ fn first_unread<'n, T: Texts>(
     depth: u32,
     levels: u32,
     texts: &mut T,
-    listed: &Option<Unread<'n>>,
+    stated: &Option<Unread<'n>>,
     start: &Start,
     wanted: Option<&'n str>,
     schema: &'n Schema,
 ) -> Result<Option<Unread<'n>>, Fault>
     requires merges { MergesFrom (document_seen document.now) depth levels start.now (schema_view schema.now) (merges_view merges.now.items) }
-    requires listed { option_map unread_view listed.now ≡ first_kept None (unread_in (T.relations texts.old) None (document_seen document.now) (tree_nodes (T.relations texts.old) (document_seen document.now) depth levels (spot_of start.now [] (option_map (λ n. n.now) wanted)) (schema_view schema.now))) }
+    requires stated { option_map unread_view stated.now ≡ first_kept None (unread_in (T.relations texts.old) None (document_seen document.now) (tree_nodes (T.relations texts.old) (document_seen document.now) depth levels (spot_of start.now [] (option_map (λ n. n.now) wanted)) (schema_view schema.now))) }
     requires fine { AreFine (T.relations texts.old) (document_seen document.now) depth levels (tree_nodes (T.relations texts.old) (document_seen document.now) depth levels (spot_of start.now [] (option_map (λ n. n.now) wanted)) (schema_view schema.now)) }
     ensures unread { IfOk result (λ o. option_map unread_view o ≡ first_kept None (unread_in (T.relations texts.old) (Some (targets_table (T.relations texts.old) (document_seen document.now) depth levels)) (document_seen document.now) (tree_nodes (T.relations texts.old) (document_seen document.now) depth levels (spot_of start.now [] (option_map (λ n. n.now) wanted.entry)) (schema_view schema.now)))) }
     ensures refused { IfErr result (λ f. Refuses (T.relations texts.old) (document_seen document.now) depth levels (T.faults texts.old) (T.faults texts.new) (with_items_asked (T.relations texts.old) (document_seen document.now) depth levels (tree_nodes (T.relations texts.old) (document_seen document.now) depth levels (spot_of start.now [] (option_map (λ n. n.now) wanted.entry)) (schema_view schema.now))) (fault_view f)) }
     ensures keeps { T.relations texts.new ≡ T.relations texts.old }
     ensures counts { T.faults texts.old ≤ T.faults texts.new }
 {
-    match listed {
+    match stated {
         Some(_) => unread_asked(
             alloc, document, merges, depth, levels, texts, start, wanted, schema,
         ),

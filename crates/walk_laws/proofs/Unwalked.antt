@@ -136,7 +136,7 @@ mutual
 
   there_lists : (ls : Lists) → ProperLists ls → ProperLists (mapped_lists unwalked ls)
   there_lists no_lists h = tt
-  there_lists (lists p x a c) h = (there_places p h.0, there_maybe x h.1, there_maybe a h.2)
+  there_lists (lists p x a c) h = (there_places p h.0, there_maybe x h.1, there_maybe a h.2, tt)
 
   there_named : (ns : Named) → ProperNamed ns → ProperNamed (mapped_named unwalked ns)
   there_named no_named h = tt
@@ -174,7 +174,7 @@ mutual
 
   back_lists : (ls : Lists) → ProperLists (mapped_lists unwalked ls) → ProperLists ls
   back_lists no_lists h = tt
-  back_lists (lists p x a c) h = (back_places p h.0, back_maybe x h.1, back_maybe a h.2)
+  back_lists (lists p x a c) h = (back_places p h.0, back_maybe x h.1, back_maybe a h.2, tt)
 
   back_named : (ns : Named) → ProperNamed (mapped_named unwalked ns) → ProperNamed ns
   back_named no_named h = tt

@@ -14,7 +14,7 @@ use Rattle.schema_types.specs.declared.schema.ObjectValidation.{out-ObjectValida
 use Rattle.schema_types.specs.View.{kept_view, schema_view, object_view, maybe_view, maybe_list_view, same_of, subschemas_view, schemas_view, items_view, places_of, lists_of, array_view, named_of, members_view, properties_view}
 use Rattle.schema_types.specs.DocumentView.{document_view}
 use Rattle.schema_admission.specs.declared.wanted.Wanted.TheVariants.{Any, One}
-use Rattle.schema_admission.specs.Sizes.{schema_size, maybe_size, maybes_size, same_size, document_size, schemas_size, places_size, lists_size, named_size, properties_size}
+use Rattle.schema_defs.specs.Counts.{schema_nodes, maybe_nodes, maybe_list_nodes, same_nodes, nodes as document_nodes, schemas_nodes, places_nodes, lists_nodes, named_nodes, properties_nodes}
 use Rattle.schema_admission.specs.Judging.{reference_agrees, same_agrees, list_agrees as list_says, negation_agrees, admitted_count, admitting_count, maybe_seen, member_part, named_member, rules_part, places_from}
 use Rattle.schema_admission.proofs.Order.{by_value, by_references, by_schema, by_rank}
 use Rattle.schema_admission.proofs.Measure.{work}
@@ -27,7 +27,7 @@ use Rattle.schema_admission.proofs.judge.+judge.Goals as goal
 pub admits_part-judge-requires : goal.admits_part-judge-requires
 admits_part-judge-requires g t c =
     let d = document_view c.args.document.now in
-    let e : work d (value_size (kept_view c.args.value.now)) (allowed d) (document_size d) 2 ≡ t = c.decreases in
+    let e : work d (value_size (kept_view c.args.value.now)) (allowed d) (document_nodes d) 2 ≡ t = c.decreases in
     λ κs within. (by_rank _ _ _ _ _ _ _ _ _ _ _ e (omega arith) (omega (arith, c.in_ok-left.ensures.answer)) (omega arith) (omega arith), (within, ((omega arith), omega (arith, c.in_ok-left.ensures.answer))))
 
 pub admits_part-returns-clause-answer : goal.admits_part-returns-clause-answer
@@ -37,8 +37,8 @@ admits_part-returns-clause-answer g t c =
 pub contains_agrees-count_admitted-requires : goal.contains_agrees-count_admitted-requires
 contains_agrees-count_admitted-requires g t c =
     let d = document_view c.args.document.now in
-    let e : work d (items_size (items_of (items_seen c.args.values.now.items))) (allowed d) (document_size d) 5 ≡ t = c.decreases in
-    λ κs within. (by_rank _ _ _ _ _ _ _ _ _ _ _ e (omega arith) (omega arith) (omega arith) (omega arith), (within, omega (arith, ap (λ o. maybe_size (maybe_view o)) c.in-Some.is, ap (λ s. schema_size (schema_view s)) c.deref.ensures)))
+    let e : work d (items_size (items_of (items_seen c.args.values.now.items))) (allowed d) (document_nodes d) 5 ≡ t = c.decreases in
+    λ κs within. (by_rank _ _ _ _ _ _ _ _ _ _ _ e (omega arith) (omega arith) (omega arith) (omega arith), (within, omega (arith, ap (λ o. maybe_nodes (maybe_view o)) c.in-Some.is, ap (λ s. schema_nodes (schema_view s)) c.deref.ensures)))
 
 pub contains_agrees-returns-in_ok-count-in-Some-clause-answer : goal.contains_agrees-returns-in_ok-count-in-Some-clause-answer
 contains_agrees-returns-in_ok-count-in-Some-clause-answer g t c =
@@ -52,19 +52,19 @@ contains_agrees-returns-in_ok-count-in-Some-clause-answer g t c =
 pub items_agree-count_admitted-requires : goal.items_agree-count_admitted-requires
 items_agree-count_admitted-requires g t c =
     let d = document_view c.args.document.now in
-    let e : work d (items_size (items_of (items_seen c.args.values.now.items))) (allowed d) (document_size d) 5 ≡ t = c.decreases in
-    λ κs within. (by_rank _ _ _ _ _ _ _ _ _ _ _ e (omega arith) (omega arith) (omega arith) (omega arith), (within, omega (arith, ap (λ o. places_size (places_of (option_map items_view o))) c.in-Some.is, one_less c.in-Some.places c.in-One.schema c.in-One.is, ap (λ s. schema_size (schema_view s)) c.deref.ensures)))
+    let e : work d (items_size (items_of (items_seen c.args.values.now.items))) (allowed d) (document_nodes d) 5 ≡ t = c.decreases in
+    λ κs within. (by_rank _ _ _ _ _ _ _ _ _ _ _ e (omega arith) (omega arith) (omega arith) (omega arith), (within, omega (arith, ap (λ o. places_nodes (places_of (option_map items_view o))) c.in-Some.is, one_less c.in-Some.places c.in-One.schema c.in-One.is, ap (λ s. schema_nodes (schema_view s)) c.deref.ensures)))
 
 pub items_agree-by_places-requires : goal.items_agree-by_places-requires
 items_agree-by_places-requires g t c =
     let d = document_view c.args.document.now in
-    let e : work d (items_size (items_of (items_seen c.args.values.now.items))) (allowed d) (document_size d) 5 ≡ t = c.decreases in
-    λ κs within. (by_rank _ _ _ _ _ _ _ _ _ _ _ e (omega arith) (omega arith) (omega arith) (omega arith), (within, (omega (arith, ap (λ o. places_size (places_of (option_map items_view o))) c.in-Some.is, many_less c.in-Some.places c.in-Many.schemas c.in-Many.is), (omega arith))))
+    let e : work d (items_size (items_of (items_seen c.args.values.now.items))) (allowed d) (document_nodes d) 5 ≡ t = c.decreases in
+    λ κs within. (by_rank _ _ _ _ _ _ _ _ _ _ _ e (omega arith) (omega arith) (omega arith) (omega arith), (within, (omega (arith, ap (λ o. places_nodes (places_of (option_map items_view o))) c.in-Some.is, many_less c.in-Some.places c.in-Many.schemas c.in-Many.is), (omega arith))))
 
 pub count_admitted-admits_part-requires : goal.count_admitted-admits_part-requires
 count_admitted-admits_part-requires g t c =
     let d = document_view c.args.document.now in
-    let e : work d (items_size (items_of (items_seen c.args.values.now.items))) (allowed d) (document_size d) 4 ≡ t = c.decreases in
+    let e : work d (items_size (items_of (items_seen c.args.values.now.items))) (allowed d) (document_nodes d) 4 ≡ t = c.decreases in
     let turn = items_turn c.deref-value-items.result.now c.args.values.now.items c.loop-value.value-index c.value-item.result c.deref-value-items.ensures.value (omega arith) c.value-item.is in
     λ κs within. (by_rank _ _ _ _ _ _ _ _ _ _ _ e (omega (arith, ap items_size turn)) (omega arith) (omega arith) (omega arith), (within, (omega arith)))
 
@@ -90,9 +90,9 @@ count_admitted-loop-value-preserved g t c =
 pub by_places-maybe_agrees-requires : goal.by_places-maybe_agrees-requires
 by_places-maybe_agrees-requires g t c =
     let d = document_view c.args.document.now in
-    let e : work d (items_size (items_of (items_seen c.args.values.now.items))) (allowed d) (document_size d) 4 ≡ t = c.decreases in
+    let e : work d (items_size (items_of (items_seen c.args.values.now.items))) (allowed d) (document_nodes d) 4 ≡ t = c.decreases in
     let turn = items_turn c.deref-value-items.result.now c.args.values.now.items c.loop-place.place c.value-item.result c.deref-value-items.ensures.value (omega arith) c.value-item.is in
-    λ κs within. (by_rank _ _ _ _ _ _ _ _ _ _ _ e (omega (arith, ap items_size turn)) (omega arith) (omega arith) (omega arith), (within, omega (arith, ap maybe_size c.at_place-schema.ensures, place_small (schemas (schemas_view c.args.schemas.now.items)) (maybe_view c.args.rest.now) c.loop-place.place (document_size d) c.requires.places c.requires.rest)))
+    λ κs within. (by_rank _ _ _ _ _ _ _ _ _ _ _ e (omega (arith, ap items_size turn)) (omega arith) (omega arith) (omega arith), (within, omega (arith, ap maybe_nodes c.at_place-schema.ensures, place_small (schemas (schemas_view c.args.schemas.now.items)) (maybe_view c.args.rest.now) c.loop-place.place (document_nodes d) c.requires.places c.requires.rest)))
 
 pub items_agree-returns-in_ok-count-in-One-clause-answer : goal.items_agree-returns-in_ok-count-in-One-clause-answer
 items_agree-returns-in_ok-count-in-One-clause-answer g t c =
@@ -142,26 +142,26 @@ follow-judge-requires g t c =
 pub judge-judge_object-requires : goal.judge-judge_object-requires
 judge-judge_object-requires g t c =
     let d = document_view c.args.document.now in
-    let e : work d (value_size (kept_view c.args.value.now)) c.args.left (schema_size (schema_view c.args.schema.now)) 1 ≡ t = c.decreases in
-    let less : schema_size (schema_view c.args.schema.now) ≡ schema_size (object_view c.deref.result.now) = object_less c.args.schema.now c.in-Object.object c.in-Object.is ∙ ap (λ o. schema_size (object_view o)) (sym c.deref.ensures) in
+    let e : work d (value_size (kept_view c.args.value.now)) c.args.left (schema_nodes (schema_view c.args.schema.now)) 1 ≡ t = c.decreases in
+    let less : schema_nodes (schema_view c.args.schema.now) ≡ schema_nodes (object_view c.deref.result.now) = object_less c.args.schema.now c.in-Object.object c.in-Object.is ∙ ap (λ o. schema_nodes (object_view o)) (sym c.deref.ensures) in
     λ κs within. (by_rank _ _ _ _ _ _ _ _ _ _ _ e (omega arith) (omega arith) (omega (arith, less)) (omega arith), (within, (omega (arith, less), (omega arith))))
 
 pub judge_object-follow-requires : goal.judge_object-follow-requires
 judge_object-follow-requires g t c =
     let d = document_view c.args.document.now in
-    let e : work d (value_size (kept_view c.args.value.now)) c.args.left (schema_size (object_view c.args.object.now)) 0 ≡ t = c.decreases in
+    let e : work d (value_size (kept_view c.args.value.now)) c.args.left (schema_nodes (object_view c.args.object.now)) 0 ≡ t = c.decreases in
     λ κs within. (by_schema _ _ _ _ _ _ _ _ _ _ _ e (omega arith) (omega arith) (omega (arith, object_size c.args.object.now)) (omega arith), (within, (omega arith)))
 
 pub judge_object-parts_agree-requires : goal.judge_object-parts_agree-requires
 judge_object-parts_agree-requires g t c =
     let d = document_view c.args.document.now in
-    let e : work d (value_size (kept_view c.args.value.now)) c.args.left (schema_size (object_view c.args.object.now)) 0 ≡ t = c.decreases in
+    let e : work d (value_size (kept_view c.args.value.now)) c.args.left (schema_nodes (object_view c.args.object.now)) 0 ≡ t = c.decreases in
     λ κs within. (by_schema _ _ _ _ _ _ _ _ _ _ _ e (omega arith) (omega arith) (omega (arith, object_size c.args.object.now)) (omega arith), (within, ((omega (arith, object_size c.args.object.now)), (omega (arith, object_size c.args.object.now)))))
 
 pub judge_object-judge_same-requires : goal.judge_object-judge_same-requires
 judge_object-judge_same-requires g t c =
     let d = document_view c.args.document.now in
-    let e : work d (value_size (kept_view c.args.value.now)) c.args.left (schema_size (object_view c.args.object.now)) 0 ≡ t = c.decreases in
+    let e : work d (value_size (kept_view c.args.value.now)) c.args.left (schema_nodes (object_view c.args.object.now)) 0 ≡ t = c.decreases in
     λ κs within. (by_schema _ _ _ _ _ _ _ _ _ _ _ e (omega arith) (omega arith) (omega (arith, object_size c.args.object.now)) (omega arith), (within, ((omega (arith, object_size c.args.object.now)), (omega arith))))
 
 pub judge_object-returns-clause-answer : goal.judge_object-returns-clause-answer
@@ -181,25 +181,25 @@ judge_object-returns-clause-answer g t c =
 pub judge_same-list_agrees-requires : goal.judge_same-list_agrees-requires
 judge_same-list_agrees-requires g t c =
     let d = document_view c.args.document.now in
-    let e : work d (value_size (kept_view c.args.value.now)) c.args.left (same_size (same_of (option_map subschemas_view c.args.subschemas.now))) 3 ≡ t = c.decreases in
+    let e : work d (value_size (kept_view c.args.value.now)) c.args.left (same_nodes (same_of (option_map subschemas_view c.args.subschemas.now))) 3 ≡ t = c.decreases in
     λ κs within. (by_rank _ _ _ _ _ _ _ _ _ _ _ e (omega arith) (omega arith) (omega (arith, same_small c.args.subschemas.now c.in-Some.lists c.in-Some.is)) (omega arith), (within, ((omega (arith, same_small c.args.subschemas.now c.in-Some.lists c.in-Some.is)), (omega arith))))
 
 pub judge_same-list_agrees-requires-2 : goal.judge_same-list_agrees-requires-2
 judge_same-list_agrees-requires-2 g t c =
     let d = document_view c.args.document.now in
-    let e : work d (value_size (kept_view c.args.value.now)) c.args.left (same_size (same_of (option_map subschemas_view c.args.subschemas.now))) 3 ≡ t = c.decreases in
+    let e : work d (value_size (kept_view c.args.value.now)) c.args.left (same_nodes (same_of (option_map subschemas_view c.args.subschemas.now))) 3 ≡ t = c.decreases in
     λ κs within. (by_rank _ _ _ _ _ _ _ _ _ _ _ e (omega arith) (omega arith) (omega (arith, same_small c.args.subschemas.now c.in-Some.lists c.in-Some.is)) (omega arith), (within, ((omega (arith, same_small c.args.subschemas.now c.in-Some.lists c.in-Some.is)), (omega arith))))
 
 pub judge_same-list_agrees-requires-3 : goal.judge_same-list_agrees-requires-3
 judge_same-list_agrees-requires-3 g t c =
     let d = document_view c.args.document.now in
-    let e : work d (value_size (kept_view c.args.value.now)) c.args.left (same_size (same_of (option_map subschemas_view c.args.subschemas.now))) 3 ≡ t = c.decreases in
+    let e : work d (value_size (kept_view c.args.value.now)) c.args.left (same_nodes (same_of (option_map subschemas_view c.args.subschemas.now))) 3 ≡ t = c.decreases in
     λ κs within. (by_rank _ _ _ _ _ _ _ _ _ _ _ e (omega arith) (omega arith) (omega (arith, same_small c.args.subschemas.now c.in-Some.lists c.in-Some.is)) (omega arith), (within, ((omega (arith, same_small c.args.subschemas.now c.in-Some.lists c.in-Some.is)), (omega arith))))
 
 pub judge_same-not_agrees-requires : goal.judge_same-not_agrees-requires
 judge_same-not_agrees-requires g t c =
     let d = document_view c.args.document.now in
-    let e : work d (value_size (kept_view c.args.value.now)) c.args.left (same_size (same_of (option_map subschemas_view c.args.subschemas.now))) 3 ≡ t = c.decreases in
+    let e : work d (value_size (kept_view c.args.value.now)) c.args.left (same_nodes (same_of (option_map subschemas_view c.args.subschemas.now))) 3 ≡ t = c.decreases in
     λ κs within. (by_rank _ _ _ _ _ _ _ _ _ _ _ e (omega arith) (omega arith) (omega (arith, same_small c.args.subschemas.now c.in-Some.lists c.in-Some.is)) (omega arith), (within, ((omega (arith, same_small c.args.subschemas.now c.in-Some.lists c.in-Some.is)), (omega arith))))
 
 pub judge_same-returns-clause-answer : goal.judge_same-returns-clause-answer
@@ -219,10 +219,10 @@ judge_same-returns-clause-answer g t c =
 pub list_agrees-judge-requires : goal.list_agrees-judge-requires
 list_agrees-judge-requires g t c =
     let d = document_view c.args.document.now in
-    let e : work d (value_size (kept_view c.args.value.now)) c.args.left (maybes_size (maybe_list_view (option_map (λ v. v.items) c.args.schemas.now))) 2 ≡ t = c.decreases in
+    let e : work d (value_size (kept_view c.args.value.now)) c.args.left (maybe_list_nodes (maybe_list_view (option_map (λ v. v.items) c.args.schemas.now))) 2 ≡ t = c.decreases in
     let whole = list_small c.args.schemas.now c.in-Some.schemas c.in-Some.is in
     let turn = schemas_turn c.deref-schema-items.result.now c.in-Some.schemas.items c.loop-schema.schema-index c.schema-item.result c.deref-schema-items.ensures.value (omega arith) c.schema-item.is in
-    λ κs within. (by_rank _ _ _ _ _ _ _ _ _ _ _ e (omega arith) (omega arith) (omega (arith, whole, ap schemas_size turn)) (omega arith), (within, (omega (arith, whole, ap schemas_size turn), (omega arith))))
+    λ κs within. (by_rank _ _ _ _ _ _ _ _ _ _ _ e (omega arith) (omega arith) (omega (arith, whole, ap schemas_nodes turn)) (omega arith), (within, (omega (arith, whole, ap schemas_nodes turn), (omega arith))))
 
 pub list_agrees-loop-schema-preserved : goal.list_agrees-loop-schema-preserved
 list_agrees-loop-schema-preserved g t c =
@@ -238,7 +238,7 @@ list_agrees-loop-schema-preserved g t c =
     let counted = ap (λ q. n + (if q then suc m else m)) said ∙ ap (λ ss. n + admitting_count r d c.args.left v ss) (sym turn) ∙ c.loop-schema.invariant.counted in record {
       counted = count_step b n m c.counted-count.result _ c.counted-count.ensures counted;
       within = count_within b n c.counted-count.result c.loop-schema.schema-index c.counted-count.ensures c.loop-schema.invariant.within;
-      small = omega (arith, ap schemas_size turn, c.loop-schema.invariant.small);
+      small = omega (arith, ap schemas_nodes turn, c.loop-schema.invariant.small);
       keeps = c.in_ok-admitted.ensures.keeps ∙ c.loop-schema.invariant.keeps;
       counts = omega (arith, c.in_ok-admitted.ensures.counts, c.loop-schema.invariant.counts);
     }
@@ -258,13 +258,13 @@ list_agrees-returns-clause-answer g t c =
 pub lists_agree-items_agree-requires : goal.lists_agree-items_agree-requires
 lists_agree-items_agree-requires g t c =
     let d = document_view c.args.document.now in
-    let e : work d (items_size (items_of (items_seen c.args.values.now.items))) (allowed d) (document_size d) 6 ≡ t = c.decreases in
+    let e : work d (items_size (items_of (items_seen c.args.values.now.items))) (allowed d) (document_nodes d) 6 ≡ t = c.decreases in
     λ κs within. (by_rank _ _ _ _ _ _ _ _ _ _ _ e (omega arith) (omega arith) (omega arith) (omega arith), (within, ((omega (arith, array_small c.args.array.now)), (omega (arith, array_small c.args.array.now)))))
 
 pub lists_agree-contains_agrees-requires : goal.lists_agree-contains_agrees-requires
 lists_agree-contains_agrees-requires g t c =
     let d = document_view c.args.document.now in
-    let e : work d (items_size (items_of (items_seen c.args.values.now.items))) (allowed d) (document_size d) 6 ≡ t = c.decreases in
+    let e : work d (items_size (items_of (items_seen c.args.values.now.items))) (allowed d) (document_nodes d) 6 ≡ t = c.decreases in
     λ κs within. (by_rank _ _ _ _ _ _ _ _ _ _ _ e (omega arith) (omega arith) (omega arith) (omega arith), (within, (omega (arith, array_small c.args.array.now))))
 
 pub lists_agree-returns-clause-answer : goal.lists_agree-returns-clause-answer
@@ -281,13 +281,13 @@ lists_agree-returns-clause-answer g t c =
 pub maybe_agrees-admits_part-requires : goal.maybe_agrees-admits_part-requires
 maybe_agrees-admits_part-requires g t c =
     let d = document_view c.args.document.now in
-    let e : work d (value_size (kept_view c.args.value.now)) (allowed d) (document_size d) 3 ≡ t = c.decreases in
-    λ κs within. (by_rank _ _ _ _ _ _ _ _ _ _ _ e (omega arith) (omega arith) (omega arith) (omega arith), (within, omega (arith, ap (λ o. maybe_size (maybe_seen (option_copied o))) c.in-Some.is)))
+    let e : work d (value_size (kept_view c.args.value.now)) (allowed d) (document_nodes d) 3 ≡ t = c.decreases in
+    λ κs within. (by_rank _ _ _ _ _ _ _ _ _ _ _ e (omega arith) (omega arith) (omega arith) (omega arith), (within, omega (arith, ap (λ o. maybe_nodes (maybe_seen (option_copied o))) c.in-Some.is)))
 
 pub members_agree-member_agrees-requires : goal.members_agree-member_agrees-requires
 members_agree-member_agrees-requires g t c =
     let d = document_view c.args.document.now in
-    let e : work d (members_size (members_of (members_seen c.args.members.now.entries))) (allowed d) (document_size d) 6 ≡ t = c.decreases in
+    let e : work d (members_size (members_of (members_seen c.args.members.now.entries))) (allowed d) (document_nodes d) 6 ≡ t = c.decreases in
     λ κs within. (by_rank _ _ _ _ _ _ _ _ _ _ _ e (omega (arith, ap (λ es. members_size (members_of (members_seen es))) c.in-Some.ensures.steps)) (omega arith) (omega arith) (omega arith), (within, (omega arith)))
 
 pub members_agree-returns-clause-answer : goal.members_agree-returns-clause-answer
@@ -316,16 +316,16 @@ members_agree-returns-then-not-branch-clause-answer g t c =
 pub member_agrees-maybe_agrees-requires : goal.member_agrees-maybe_agrees-requires
 member_agrees-maybe_agrees-requires g t c =
     let d = document_view c.args.document.now in
-    let e : work d (1 + value_size (kept_view c.args.value.now)) (allowed d) (document_size d) 5 ≡ t = c.requires.1.0 in
+    let e : work d (1 + value_size (kept_view c.args.value.now)) (allowed d) (document_nodes d) 5 ≡ t = c.requires.1.0 in
     let o = out-ObjectValidation c.args.object.now in
     let sizes = members_small c.args.object.now in
     let property = property_at c.args.name.now (properties_view o.properties.entries) in
-    λ κs within. (by_rank _ _ _ _ _ _ _ _ _ _ _ e (omega arith) (omega arith) (omega arith) (omega arith), (within, omega (arith, ap maybe_size c.property_unless-property.ensures, unless_small c.is_passed_over-passed.result property, property_small c.args.name.now (properties_view o.properties.entries), sizes)))
+    λ κs within. (by_rank _ _ _ _ _ _ _ _ _ _ _ e (omega arith) (omega arith) (omega arith) (omega arith), (within, omega (arith, ap maybe_nodes c.property_unless-property.ensures, unless_small c.is_passed_over-passed.result property, property_small c.args.name.now (properties_view o.properties.entries), sizes)))
 
 pub member_agrees-patterns_agree-requires : goal.member_agrees-patterns_agree-requires
 member_agrees-patterns_agree-requires g t c =
     let d = document_view c.args.document.now in
-    let e : work d (1 + value_size (kept_view c.args.value.now)) (allowed d) (document_size d) 5 ≡ t = c.requires.1.0 in
+    let e : work d (1 + value_size (kept_view c.args.value.now)) (allowed d) (document_nodes d) 5 ≡ t = c.requires.1.0 in
     let o = out-ObjectValidation c.args.object.now in
     let sizes = members_small c.args.object.now in
     λ κs within. (by_rank _ _ _ _ _ _ _ _ _ _ _ e (omega arith) (omega arith) (omega arith) (omega arith), (within, omega (arith, sizes)))
@@ -333,18 +333,18 @@ member_agrees-patterns_agree-requires g t c =
 pub member_agrees-maybe_agrees-requires-2 : goal.member_agrees-maybe_agrees-requires-2
 member_agrees-maybe_agrees-requires-2 g t c =
     let d = document_view c.args.document.now in
-    let e : work d (1 + value_size (kept_view c.args.value.now)) (allowed d) (document_size d) 5 ≡ t = c.requires.1.0 in
+    let e : work d (1 + value_size (kept_view c.args.value.now)) (allowed d) (document_nodes d) 5 ≡ t = c.requires.1.0 in
     let o = out-ObjectValidation c.args.object.now in
     let sizes = members_small c.args.object.now in
-    λ κs within. (by_rank _ _ _ _ _ _ _ _ _ _ _ e (omega arith) (omega arith) (omega arith) (omega arith), (within, omega (arith, ap maybe_size c.unless-rest.ensures, unless_small c.either.result (maybe_view o.additional_properties), sizes)))
+    λ κs within. (by_rank _ _ _ _ _ _ _ _ _ _ _ e (omega arith) (omega arith) (omega arith) (omega arith), (within, omega (arith, ap maybe_nodes c.unless-rest.ensures, unless_small c.either.result (maybe_view o.additional_properties), sizes)))
 
 pub member_agrees-maybe_agrees-requires-3 : goal.member_agrees-maybe_agrees-requires-3
 member_agrees-maybe_agrees-requires-3 g t c =
     let d = document_view c.args.document.now in
-    let e : work d (1 + value_size (kept_view c.args.value.now)) (allowed d) (document_size d) 5 ≡ t = c.requires.1.0 in
+    let e : work d (1 + value_size (kept_view c.args.value.now)) (allowed d) (document_nodes d) 5 ≡ t = c.requires.1.0 in
     let o = out-ObjectValidation c.args.object.now in
     let sizes = members_small c.args.object.now in
-    λ κs within. (by_rank _ _ _ _ _ _ _ _ _ _ _ e (omega (arith, ap value_size c.in_ok-text.ensures.answer)) (omega arith) (omega arith) (omega arith), (within, omega (arith, ap maybe_size c.unless-names.ensures, sizes)))
+    λ κs within. (by_rank _ _ _ _ _ _ _ _ _ _ _ e (omega (arith, ap value_size c.in_ok-text.ensures.answer)) (omega arith) (omega arith) (omega arith), (within, omega (arith, ap maybe_nodes c.unless-names.ensures, sizes)))
 
 pub member_agrees-returns-clause-answer : goal.member_agrees-returns-clause-answer
 member_agrees-returns-clause-answer g t c =
@@ -376,23 +376,23 @@ member_agrees-returns-clause-answer g t c =
 pub not_agrees-judge-requires : goal.not_agrees-judge-requires
 not_agrees-judge-requires g t c =
     let d = document_view c.args.document.now in
-    let e : work d (value_size (kept_view c.args.value.now)) c.args.left (maybe_size (maybe_view c.args.not.now)) 2 ≡ t = c.decreases in
-    λ κs within. (by_rank _ _ _ _ _ _ _ _ _ _ _ e (omega arith) (omega arith) (omega (arith, ap (λ o. maybe_size (maybe_view o)) c.in-Some.is, ap (λ s. schema_size (schema_view s)) c.deref.ensures)) (omega arith), (within, (omega (arith, ap (λ o. maybe_size (maybe_view o)) c.in-Some.is, ap (λ s. schema_size (schema_view s)) c.deref.ensures), (omega arith))))
+    let e : work d (value_size (kept_view c.args.value.now)) c.args.left (maybe_nodes (maybe_view c.args.not.now)) 2 ≡ t = c.decreases in
+    λ κs within. (by_rank _ _ _ _ _ _ _ _ _ _ _ e (omega arith) (omega arith) (omega (arith, ap (λ o. maybe_nodes (maybe_view o)) c.in-Some.is, ap (λ s. schema_nodes (schema_view s)) c.deref.ensures)) (omega arith), (within, (omega (arith, ap (λ o. maybe_nodes (maybe_view o)) c.in-Some.is, ap (λ s. schema_nodes (schema_view s)) c.deref.ensures), (omega arith))))
 
 pub parts_agree-lists_agree-requires : goal.parts_agree-lists_agree-requires
 parts_agree-lists_agree-requires g t c =
     let d = document_view c.args.document.now in
     let e : work d (value_size (kept_view c.args.value.now)) 0 0 0 ≡ t = c.decreases in
-    λ κs within. (by_value _ _ _ _ _ _ _ _ _ _ _ e (array_size c.args.value.now c.in-Array-Some-default.values c.in-Array-Some-default.is-0) (omega arith) (omega arith) (omega arith), (within, omega (arith, ap (λ o. lists_size (lists_of (option_map array_view o))) c.in-Array-Some-default.is-1)))
+    λ κs within. (by_value _ _ _ _ _ _ _ _ _ _ _ e (array_size c.args.value.now c.in-Array-Some-default.values c.in-Array-Some-default.is-0) (omega arith) (omega arith) (omega arith), (within, omega (arith, ap (λ o. lists_nodes (lists_of (option_map array_view o))) c.in-Array-Some-default.is-1)))
 
 pub parts_agree-members_agree-requires : goal.parts_agree-members_agree-requires
 parts_agree-members_agree-requires g t c =
     let d = document_view c.args.document.now in
     let e : work d (value_size (kept_view c.args.value.now)) 0 0 0 ≡ t = c.decreases in
-    λ κs within. (by_value _ _ _ _ _ _ _ _ _ _ _ e (members_less c.args.value.now c.in-Object-default-Some.members c.in-Object-default-Some.is-0) (omega arith) (omega arith) (omega arith), (within, omega (arith, ap (λ o. named_size (named_of (option_map members_view o))) c.in-Object-default-Some.is-2)))
+    λ κs within. (by_value _ _ _ _ _ _ _ _ _ _ _ e (members_less c.args.value.now c.in-Object-default-Some.members c.in-Object-default-Some.is-0) (omega arith) (omega arith) (omega arith), (within, omega (arith, ap (λ o. named_nodes (named_of (option_map members_view o))) c.in-Object-default-Some.is-2)))
 
 pub patterns_agree-admits_part-requires : goal.patterns_agree-admits_part-requires
 patterns_agree-admits_part-requires g t c =
     let d = document_view c.args.document.now in
-    let e : work d (value_size (kept_view c.args.value.now)) (allowed d) (document_size d) 4 ≡ t = c.requires.1.0 in
-    λ κs within. (by_rank _ _ _ _ _ _ _ _ _ _ _ e (omega arith) (omega arith) (omega arith) (omega arith), (within, omega (arith, ap (λ es. properties_size (properties_view es)) c.in-Some.ensures.steps)))
+    let e : work d (value_size (kept_view c.args.value.now)) (allowed d) (document_nodes d) 4 ≡ t = c.requires.1.0 in
+    λ κs within. (by_rank _ _ _ _ _ _ _ _ _ _ _ e (omega arith) (omega arith) (omega arith) (omega arith), (within, omega (arith, ap (λ es. properties_nodes (properties_view es)) c.in-Some.ensures.steps)))

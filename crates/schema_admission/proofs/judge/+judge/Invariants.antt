@@ -8,7 +8,7 @@ use Rattle.schema_defs.specs.Layer.{Judge, by_places as by_places_in, patterns_a
 use Rattle.schema_defs.specs.Admits.{admits as admits_in, item_judges, member_parts}
 use Rattle.schema_types.specs.View.{kept_view, schema_view, object_view, schemas_view, maybe_view, maybe_list_view, subschemas_view, same_of, members_view, properties_view}
 use Rattle.schema_types.specs.DocumentView.{document_view}
-use Rattle.schema_admission.specs.Sizes.{schema_size, schemas_size, maybe_size, maybes_size, same_size, properties_size}
+use Rattle.schema_defs.specs.Counts.{schema_nodes, schemas_nodes, maybe_nodes, maybe_list_nodes, same_nodes, properties_nodes}
 use Rattle.schema_admission.specs.Judging.{admitted_count, admitting_count, named_member, places_from}
 use Rattle.schema_admission.proofs.Measure.{work, anew}
 use Rattle.schema_admission.proofs.judge.+judge.Given as goal
@@ -17,10 +17,10 @@ abbrev pub decreases-admits_part : goal.decreases-admits_part
 decreases-admits_part g l = anew (document_view l.document.now) (value_size (kept_view l.value.now)) 2
 
 abbrev pub decreases-judge : goal.decreases-judge
-decreases-judge g l = work (document_view l.document.now) (value_size (kept_view l.value.now)) l.left (schema_size (schema_view l.schema.now)) 1
+decreases-judge g l = work (document_view l.document.now) (value_size (kept_view l.value.now)) l.left (schema_nodes (schema_view l.schema.now)) 1
 
 abbrev pub decreases-judge_object : goal.decreases-judge_object
-decreases-judge_object g l = work (document_view l.document.now) (value_size (kept_view l.value.now)) l.left (schema_size (object_view l.object.now)) 0
+decreases-judge_object g l = work (document_view l.document.now) (value_size (kept_view l.value.now)) l.left (schema_nodes (object_view l.object.now)) 0
 
 abbrev pub decreases-follow : goal.decreases-follow
 decreases-follow g l = work (document_view l.document.now) (value_size (kept_view l.value.now)) l.left 0 0
@@ -29,13 +29,13 @@ abbrev pub decreases-parts_agree : goal.decreases-parts_agree
 decreases-parts_agree g l = work (document_view l.document.now) (value_size (kept_view l.value.now)) 0 0 0
 
 abbrev pub decreases-judge_same : goal.decreases-judge_same
-decreases-judge_same g l = work (document_view l.document.now) (value_size (kept_view l.value.now)) l.left (same_size (same_of (option_map subschemas_view l.subschemas.now))) 3
+decreases-judge_same g l = work (document_view l.document.now) (value_size (kept_view l.value.now)) l.left (same_nodes (same_of (option_map subschemas_view l.subschemas.now))) 3
 
 abbrev pub decreases-list_agrees : goal.decreases-list_agrees
-decreases-list_agrees g l = work (document_view l.document.now) (value_size (kept_view l.value.now)) l.left (maybes_size (maybe_list_view (option_map (λ v. v.items) l.schemas.now))) 2
+decreases-list_agrees g l = work (document_view l.document.now) (value_size (kept_view l.value.now)) l.left (maybe_list_nodes (maybe_list_view (option_map (λ v. v.items) l.schemas.now))) 2
 
 abbrev pub decreases-not_agrees : goal.decreases-not_agrees
-decreases-not_agrees g l = work (document_view l.document.now) (value_size (kept_view l.value.now)) l.left (maybe_size (maybe_view l.not.now)) 2
+decreases-not_agrees g l = work (document_view l.document.now) (value_size (kept_view l.value.now)) l.left (maybe_nodes (maybe_view l.not.now)) 2
 
 abbrev pub decreases-maybe_agrees : goal.decreases-maybe_agrees
 decreases-maybe_agrees g l = anew (document_view l.document.now) (value_size (kept_view l.value.now)) 3
@@ -73,7 +73,7 @@ invariant-list_agrees-loop-schema g l =
     let whole = schemas (schemas_view l.schemas.items) in record {
       counted : l.count + admitting_count r d l.left v rest ≡ admitting_count r d l.left v whole;
       within : l.count ≤ l.schema-index;
-      small : schemas_size rest ≤ schemas_size whole;
+      small : schemas_nodes rest ≤ schemas_nodes whole;
       keeps : g.T.Texts.relations l.texts ≡ r;
       counts : g.T.Texts.faults l.initial.texts ≤ g.T.Texts.faults l.texts;
     }
@@ -127,7 +127,7 @@ invariant-patterns_agree-loop-pattern g l =
     let rest = properties_view l.pattern-iterator in
     let whole = properties_view l.patterns.entries in record {
       judged : patterns_say has j whole ≡ patterns_say has j rest;
-      small : properties_size rest ≤ properties_size whole;
+      small : properties_nodes rest ≤ properties_nodes whole;
       keeps : g.T.Texts.relations l.texts ≡ r;
       counts : g.T.Texts.faults l.initial.texts ≤ g.T.Texts.faults l.texts;
     }

@@ -6,8 +6,8 @@ use Rattle.typify_convert.proofs.Ends.{if_err}
 use Rattle.type_space.proofs.Told.{listed_later, asked_found, refuses_later}
 use Rattle.type_space.proofs.collect.collected.Goals as goal
 
-pub first_unread-requires-clause-listed : goal.first_unread-requires-clause-listed
-first_unread-requires-clause-listed g c = listed_later (g.T.Texts.relations c.args.texts.now) (document_seen c.args.document.now) c.args.depth c.args.levels (g.T.Texts.relations c.targets_by.new.texts) _ _ c.in_ok-found.ensures.keeps c.in_ok-found.ensures.found
+pub first_unread-requires-clause-stated : goal.first_unread-requires-clause-stated
+first_unread-requires-clause-stated g c = listed_later (g.T.Texts.relations c.args.texts.now) (document_seen c.args.document.now) c.args.depth c.args.levels (g.T.Texts.relations c.targets_by.new.texts) _ _ c.in_ok-found.ensures.keeps c.in_ok-found.ensures.found
 
 pub returns-clause-found : goal.returns-clause-found
 returns-clause-found g c =

@@ -8,4 +8,4 @@ use Rattle.type_space.proofs.collect.first_unread.Goals as goal
 
 pub returns-in-None-clause-unread : goal.returns-in-None-clause-unread
 returns-in-None-clause-unread g c =
-    none_listed (g.T.Texts.relations c.args.texts.now) (document_seen c.args.document.now) (table_view c.args.table.now) (target_nodes (g.T.Texts.relations c.args.texts.now) (document_seen c.args.document.now) c.args.depth c.args.levels) (sym (ap (option_map unread_view) c.in-None.is) ∙ c.requires.listed)
+    none_listed (g.T.Texts.relations c.args.texts.now) (document_seen c.args.document.now) (table_view c.args.table.now) (target_nodes (g.T.Texts.relations c.args.texts.now) (document_seen c.args.document.now) c.args.depth c.args.levels) (sym (ap (option_map unread_view) c.in-None.is) ∙ c.requires.stated)

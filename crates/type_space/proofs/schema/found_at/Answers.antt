@@ -7,8 +7,8 @@ use Rattle.typify_convert.proofs.Ends.{if_err}
 use Rattle.type_space.proofs.Told.{spot_listed, spot_fine, spot_found, spot_refused, spot_refused_later}
 use Rattle.type_space.proofs.schema.found_at.Goals as goal
 
-pub first_unread-requires-clause-listed : goal.first_unread-requires-clause-listed
-first_unread-requires-clause-listed g c = spot_listed (g.T.Texts.relations c.args.texts.now) (document_seen c.args.document.now) c.args.depth c.args.levels (spot_of c.args.start.now [] (option_map (λ n. n.now) c.args.wanted)) (schema_view c.args.schema.now) (g.T.Texts.relations c.found_by.new.texts) _ _ c.in_ok-found.ensures.keeps c.in_ok-found.ensures.found
+pub first_unread-requires-clause-stated : goal.first_unread-requires-clause-stated
+first_unread-requires-clause-stated g c = spot_listed (g.T.Texts.relations c.args.texts.now) (document_seen c.args.document.now) c.args.depth c.args.levels (spot_of c.args.start.now [] (option_map (λ n. n.now) c.args.wanted)) (schema_view c.args.schema.now) (g.T.Texts.relations c.found_by.new.texts) _ _ c.in_ok-found.ensures.keeps c.in_ok-found.ensures.found
 
 pub first_unread-requires-clause-fine : goal.first_unread-requires-clause-fine
 first_unread-requires-clause-fine g c = spot_fine (g.T.Texts.relations c.args.texts.now) (document_seen c.args.document.now) c.args.depth c.args.levels (spot_of c.args.start.now [] (option_map (λ n. n.now) c.args.wanted)) (schema_view c.args.schema.now) (g.T.Texts.relations c.found_by.new.texts) c.in_ok-found.ensures.keeps c.in_ok-found.ensures.found.fine

@@ -1,9 +1,10 @@
--- A fact of each schema inside a schema, and of each inside the parts of a row.
+-- What holds of each schema inside the parts of a row, and which schemas a row makes.
 use Rattle.std.proofs.Common.{◌≡◌, List, [], ◌∷◌, ◌++◌, false, Some}
 use Rattle.json_value.specs.Value.{Value}
 use Rattle.schema_defs.specs.declared.InstanceType.{InstanceType}
 use Rattle.schema_defs.specs.declared.InstanceType.TheVariants.{Object, Number, Text, Integer}
-use Rattle.schema_defs.specs.Schema.{Plain, Schema, boolean, object, Same, no_same, same_value, Lists, no_lists, lists, Named, no_named, named, MaybeSchema, no_schema, the_schema, MaybeSchemas, no_list, the_list, Schemas, no_more, schema, Places, no_items, each_item, by_place, Properties, no_properties, property}
+use Rattle.schema_defs.specs.Schema.{Plain, Named, no_named, ListRules}
+use Rattle.each_schema.specs.Each.{EachSchema}
 use Rattle.convert_defs.specs.Row.{Part, VariantRow, variants_parts, Row, row_parts}
 use Rattle.convert_defs.specs.Standing.{of_type, less_types, less_enum, less_const, alone, no_keyword}
 use Rattle.enum_defs.specs.Words.{same_type}
@@ -12,56 +13,16 @@ use Rattle.convert_defs.specs.Shapes.{Member}
 use Rattle.convert_defs.specs.Table.{type_beside_null, beside_null, only_type}
 use Rattle.convert_defs.proofs.Views.{schema_of, AllParts}
 
-module _ (At : Plain → Named → Type 0) where
-  abbrev mutual
-    pub Deep : Schema → Type 0
-    Deep (boolean b) = Unit {0}
-    Deep (object p ss ls ns) = At p ns × DeepSame ss × DeepLists ls × DeepNamed ns
-
-    pub DeepSame : Same → Type 0
-    DeepSame no_same = Unit {0}
-    DeepSame (same_value all any one none conditional) = DeepMembers all × DeepMembers any × DeepMembers one × DeepMaybe none
-
-    pub DeepLists : Lists → Type 0
-    DeepLists no_lists = Unit {0}
-    DeepLists (lists places others contains rules) = DeepPlaces places × DeepMaybe others × DeepMaybe contains
-
-    pub DeepNamed : Named → Type 0
-    DeepNamed no_named = Unit {0}
-    DeepNamed (named props patterns others names rules) = DeepProperties props × DeepProperties patterns × DeepMaybe others × DeepMaybe names
-
-    pub DeepMaybe : MaybeSchema → Type 0
-    DeepMaybe no_schema = Unit {0}
-    DeepMaybe (the_schema s) = Deep s
-
-    pub DeepMembers : MaybeSchemas → Type 0
-    DeepMembers no_list = Unit {0}
-    DeepMembers (the_list ss) = DeepAll ss
-
-    pub DeepAll : Schemas → Type 0
-    DeepAll no_more = Unit {0}
-    DeepAll (schema s ss) = Deep s × DeepAll ss
-
-    pub DeepPlaces : Places → Type 0
-    DeepPlaces no_items = Unit {0}
-    DeepPlaces (each_item s) = Deep s
-    DeepPlaces (by_place ss) = DeepAll ss
-
-    pub DeepProperties : Properties → Type 0
-    DeepProperties no_properties = Unit {0}
-    DeepProperties (property k s ps) = Deep s × DeepProperties ps
-
-  -- ---- parts and rows
-
+module _ (At : Plain → Named → Type 0) (sized : ListRules → Type 0) where
   abbrev pub In : Part → Type 0
-  In p = Deep (schema_of p)
+  In p = EachSchema At sized (schema_of p)
 
   abbrev pub AllIn : Row → Type 0
   AllIn w = AllParts In (row_parts w)
 
   abbrev pub MembersIn : List Member → Type 0
   MembersIn [] = Unit {0}
-  MembersIn (m ∷ ms) = Deep m.1 × MembersIn ms
+  MembersIn (m ∷ ms) = EachSchema At sized m.1 × MembersIn ms
 
   abbrev pub VariantsIn : List VariantRow → Type 0
   VariantsIn ws = AllParts In (variants_parts ws)
@@ -70,6 +31,7 @@ module _ (At : Plain → Named → Type 0) where
   parts-both [] ys h g = g
   parts-both (x ∷ xs) ys h g = (h.0, parts-both xs ys h.1 g)
 
+module _ (At : Plain → Named → Type 0) where
   -- the schemas that rows make have it
   pub record IsMadeToo : Type 0 where
     pub one : (k : InstanceType) → same_type Number k ≡ false → At (of_type k no_keyword) no_named
@@ -83,6 +45,6 @@ module _ (At : Plain → Named → Type 0) where
     pub no_enum : (p : Plain) (ns : Named) → At p ns → At (less_enum p) ns
     pub no_const : (p : Plain) (ns : Named) → At p ns → At (less_const p) ns
 
-module _ (At : Plain → Named → Type 0) (made_here : IsMadeToo At) where
-  pub of-one-type : (k : InstanceType) → same_type Number k ≡ false → Deep At (alone (of_type k no_keyword))
+module _ (At : Plain → Named → Type 0) (sized : ListRules → Type 0) (made_here : IsMadeToo At) where
+  pub of-one-type : (k : InstanceType) → same_type Number k ≡ false → EachSchema At sized (alone (of_type k no_keyword))
   of-one-type k e = (made_here.one k e, tt, tt, tt)

@@ -6,7 +6,7 @@ use Rattle.schema_defs.specs.declared.Setting.{Setting}
 use Rattle.schema_defs.specs.declared.Setting.TheVariants.{Strict}
 use Rattle.schema_defs.specs.declared.InstanceType.TheVariants.{Object, Text}
 use Rattle.schema_defs.specs.Location.{Location}
-use Rattle.schema_defs.specs.Schema.{Plain, Schema, boolean, object, Named, no_named, named, no_schema, the_schema, Properties, no_properties, property, Document}
+use Rattle.schema_defs.specs.Schema.{Plain, Schema, boolean, object, Named, no_named, named, no_schema, the_schema, Properties, no_properties, property, Document, ListRules}
 use Rattle.convert_defs.specs.Row.{Part, FieldRow, field_parts, VariantRow, body_parts, variants_parts, Row}
 use Rattle.enum_defs.specs.Words.{has_type, without_same, without_lists, is_bare, names_of, all_some, is_name}
 use Rattle.convert_defs.specs.Owners.{property_fields}
@@ -17,27 +17,28 @@ use Rattle.convert_defs.proofs.Views.{AllParts}
 use Rattle.convert_defs.proofs.Rows.{parts-left, parts-right}
 use Rattle.convert_defs.proofs.Bare.{none-some, some-same}
 use Rattle.convert_defs.proofs.SameShapes.{whole, external-found, internal-found, adjacent-found}
-use Rattle.conversion_laws.proofs.Deep.{Deep, DeepNamed, DeepProperties, IsMadeToo, In as PartIn, AllIn as RowIn, MembersIn as AllMembersIn, VariantsIn as AllVariantsIn, parts-both}
+use Rattle.each_schema.specs.Each.{EachSchema, EachInNamed, EachInProperties}
+use Rattle.convert_defs.proofs.InsideParts.{IsMadeToo, In as PartIn, AllIn as RowIn, MembersIn as AllMembersIn, VariantsIn as AllVariantsIn, parts-both}
 
-module _ (At : Plain → Named → Type 0) (made_here : IsMadeToo At) (d : Document) where
+module _ (At : Plain → Named → Type 0) (sized : ListRules → Type 0) (made_here : IsMadeToo At) (d : Document) where
   abbrev In : Part → Type 0
-  In = PartIn At
+  In = PartIn At sized
 
   abbrev AllIn : Row → Type 0
-  AllIn = RowIn At
+  AllIn = RowIn At sized
 
   abbrev MembersIn : List Member → Type 0
-  MembersIn = AllMembersIn At
+  MembersIn = AllMembersIn At sized
 
   abbrev VariantsIn : List VariantRow → Type 0
-  VariantsIn = AllVariantsIn At
+  VariantsIn = AllVariantsIn At sized
 
   -- ---- object shapes
 
   abbrev ShapeIn : ObjectShape → Type 0
-  ShapeIn o = DeepProperties At o.props
+  ShapeIn o = EachInProperties At sized o.props
 
-  named-shape : (l : Location) (ms : Named) (o : ObjectShape) → DeepNamed At ms → shape_of_named l ms ≡ Some o → ShapeIn o
+  named-shape : (l : Location) (ms : Named) (o : ObjectShape) → EachInNamed At sized ms → shape_of_named l ms ≡ Some o → ShapeIn o
   named-shape l no_named o a e = subst ShapeIn (some-same _ o e) tt
   named-shape l (named props no_properties others no_schema rules) o a e = by (is_none rules.max_properties && is_none rules.min_properties && list_all (λ n. is_name n (names_of props)) rules.required) e
     where
@@ -51,7 +52,7 @@ module _ (At : Plain → Named → Type 0) (made_here : IsMadeToo At) (d : Docum
   named-shape l (named props (property k u us) others names rules) o a e = none-some o e
   named-shape l (named props no_properties others (the_schema u) rules) o a e = none-some o e
 
-  shape-in : (m : Member) (o : ObjectShape) → Deep At m.1 → object_shape m ≡ Some o → ShapeIn o
+  shape-in : (m : Member) (o : ObjectShape) → EachSchema At sized m.1 → object_shape m ≡ Some o → ShapeIn o
   shape-in (l, boolean b) o a e = none-some o e
   shape-in (l, object q sq lq nq) o a e = by (has_type Object q.types && is_bare q sq && is_none q.format && is_none q.numbers && is_none q.texts && without_lists lq) e
     where
@@ -74,15 +75,15 @@ module _ (At : Plain → Named → Type 0) (made_here : IsMadeToo At) (d : Docum
       by (Some o) f None g h rec = none-some os (ap (option_map (λ ys. o ∷ ys)) (sym g) ∙ h)
       by (Some o) f (Some xs) g h rec = subst ShapesIn (some-same (o ∷ xs) os (ap (option_map (λ ys. o ∷ ys)) (sym g) ∙ h)) (shape-in m o a.0 f, rec xs g)
 
-  less-in : (n : List ℕ) (ps : Properties) → DeepProperties At ps → DeepProperties At (less_property n ps)
+  less-in : (n : List ℕ) (ps : Properties) → EachInProperties At sized ps → EachInProperties At sized (less_property n ps)
   less-in n no_properties h = tt
   less-in n (property k s ps) h = by (bytes_eq n k) (less-in n ps h.1)
     where
-      by : (b : Bool) → DeepProperties At (less_property n ps) → DeepProperties At (if b then less_property n ps else property k s (less_property n ps))
+      by : (b : Bool) → EachInProperties At sized (less_property n ps) → EachInProperties At sized (if b then less_property n ps else property k s (less_property n ps))
       by true g = g
       by false g = (h.0, g)
 
-  placed-in : (l : Location) (st : Setting) (req : List (List ℕ)) (ps : Properties) → DeepProperties At ps → AllParts In (field_parts (map (placed_field l) (property_fields st req ps)))
+  placed-in : (l : Location) (st : Setting) (req : List (List ℕ)) (ps : Properties) → EachInProperties At sized ps → AllParts In (field_parts (map (placed_field l) (property_fields st req ps)))
   placed-in l st req no_properties h = tt
   placed-in l st req (property k s ps) h = (h.0, placed-in l st req ps h.1)
 
@@ -99,11 +100,11 @@ module _ (At : Plain → Named → Type 0) (made_here : IsMadeToo At) (d : Docum
 
   internal-all : (st : Setting) (n : List ℕ) (os : List ObjectShape) → ShapesIn os → VariantsIn (map (internal_variant st n) os)
   internal-all st n [] h = tt
-  internal-all st n (o ∷ os) h = parts-both At (body_parts (internal_variant st n o).body) (variants_parts (map (internal_variant st n) os)) (fields-body (branch_fields st n o) (branch-in st n o h.0)) (internal-all st n os h.1)
+  internal-all st n (o ∷ os) h = parts-both At sized (body_parts (internal_variant st n o).body) (variants_parts (map (internal_variant st n) os)) (fields-body (branch_fields st n o) (branch-in st n o h.0)) (internal-all st n os h.1)
 
   adjacent-all : (n : List ℕ) (os : List ObjectShape) → ShapesIn os → VariantsIn (map (adjacent_variant n) os)
   adjacent-all n [] h = tt
-  adjacent-all n (o ∷ os) h = parts-both At (body_parts (adjacent_variant n o).body) (variants_parts (map (adjacent_variant n) os)) (field-body (branch_fields Strict n o) (branch-in Strict n o h.0)) (adjacent-all n os h.1)
+  adjacent-all n (o ∷ os) h = parts-both At sized (body_parts (adjacent_variant n o).body) (variants_parts (map (adjacent_variant n) os)) (field-body (branch_fields Strict n o) (branch-in Strict n o h.0)) (adjacent-all n os h.1)
 
   pub internal-in : (st : Setting) (ms : List Member) (t : TaggedShape) → MembersIn ms → internal_shape st ms ≡ Some t → VariantsIn t.variants
   internal-in st ms t a e =
@@ -121,9 +122,9 @@ module _ (At : Plain → Named → Type 0) (made_here : IsMadeToo At) (d : Docum
 
   both-in : (xs ys : List VariantRow) → VariantsIn xs → VariantsIn ys → VariantsIn (xs ++ ys)
   both-in [] ys h g = g
-  both-in (x ∷ xs) ys h g = parts-both At (body_parts x.body) (variants_parts (xs ++ ys)) (parts-left In (body_parts x.body) (variants_parts xs) h) (both-in xs ys (parts-right In (body_parts x.body) (variants_parts xs) h) g)
+  both-in (x ∷ xs) ys h g = parts-both At sized (body_parts x.body) (variants_parts (xs ++ ys)) (parts-left In (body_parts x.body) (variants_parts xs) h) (both-in xs ys (parts-right In (body_parts x.body) (variants_parts xs) h) g)
 
-  one-in : (l : Location) (req : List (List ℕ)) (qs : Properties) (ws : List VariantRow) → DeepProperties At qs → lone_property l req qs ≡ Some ws → VariantsIn ws
+  one-in : (l : Location) (req : List (List ℕ)) (qs : Properties) (ws : List VariantRow) → EachInProperties At sized qs → lone_property l req qs ≡ Some ws → VariantsIn ws
   one-in l req no_properties ws a h = none-some ws h
   one-in l req (property k u no_properties) ws a h = chosen (is_name k req) h
     where
@@ -132,7 +133,7 @@ module _ (At : Plain → Named → Type 0) (made_here : IsMadeToo At) (d : Docum
       chosen false g = none-some ws g
   one-in l req (property k u (property m t qs)) ws a h = none-some ws h
 
-  case-in : (m : Member) (ws : List VariantRow) → Deep At m.1 → external_case m ≡ Some ws → VariantsIn ws
+  case-in : (m : Member) (ws : List VariantRow) → EachSchema At sized m.1 → external_case m ≡ Some ws → VariantsIn ws
   case-in (l, u) ws a e = by (text_case u) refl e
     where
       shaped : (o : Option ObjectShape) → object_shape (l, u) ≡ o → option_and_then one_property o ≡ Some ws → VariantsIn ws

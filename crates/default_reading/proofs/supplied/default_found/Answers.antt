@@ -5,7 +5,7 @@ use Rattle.entry_trees.specs.View.{table_view, tree_view}
 use Rattle.default_defs.specs.Supplied.{supplied}
 use Rattle.default_reading.specs.Seen.{found_view}
 use Rattle.default_reading.proofs.Levels.{alone_ended, alone_refused}
-use Rattle.default_reading.proofs.supplied.found_of.Goals as goal
+use Rattle.default_reading.proofs.supplied.default_found.Goals as goal
 
 pub returns-in-Refused-clause-answer : goal.returns-in-Refused-clause-answer
 returns-in-Refused-clause-answer g c =

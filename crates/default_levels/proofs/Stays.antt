@@ -7,8 +7,9 @@ use Rattle.entry_defs.specs.Entry.{Entry}
 use Rattle.entry_defs.specs.Table.{Table}
 use Rattle.default_defs.specs.Found.{Found, refused, ended, endless, both, or_next, given}
 use Rattle.default_defs.specs.Supplied.{read_inside}
-use Rattle.default_defs.specs.Laws.{EndedStays}
-use Rattle.default_defs.proofs.Related.{IsKept, of_value}
+use Rattle.default_levels.specs.Laws.{EndedStays}
+use Rattle.default_levels.proofs.Pairs.{pairs, in_targets, everywhere}
+use Rattle.default_levels.proofs.Related.{IsKept, Same, of_value}
 
 -- what hasn't come to an end may come to anything, and all else stays
 abbrev pub StaysAs : Found → Found → Type 0
@@ -42,7 +43,11 @@ joined = record { of_one = alone; of_both = together; of_next = one_after; of_gi
 pub stays : (t : Table) (r : Relations) (k l : ℕ) → k ≤ l → (e : Entry) (v : Value) → StaysAs (read_inside t r k e v) (read_inside t r l e v)
 stays t r zero l h e v = tt
 stays t r (suc k) zero h e v = absurd (omega (arith, h))
-stays t r (suc k) (suc l) h e v = of_value StaysAs joined (read_inside t r k) (read_inside t r l) (stays t r k l (omega (arith, h))) t r v e
+stays t r (suc k) (suc l) h e v =
+    let x = read_inside t r k in
+    let y = read_inside t r l in
+    let all = everywhere (Same StaysAs joined x y) (stays t r k l (omega (arith, h))) in
+    of_value StaysAs joined x y t (all (in_targets t.targets)) r v e (all (pairs e))
 
 pub ended_stays : EndedStays
 ended_stays t r k e v =

@@ -3,18 +3,16 @@ use Rattle.std.proofs.Common.{◌≡◌, [], ◌∷◌, false, Option, Some, Non
 use Rattle.schema_defs.specs.declared.InstanceType.{InstanceType}
 use Rattle.schema_defs.specs.declared.InstanceType.TheVariants.{Null, Boolean, Object, Array, Number, Text, Integer}
 use Rattle.schema_defs.specs.Texts.{Relations}
-use Rattle.schema_defs.specs.Schema.{Types, one_type, many_types, Plain, Schema, Named, Document}
+use Rattle.schema_defs.specs.Schema.{Types, one_type, many_types, Schema, Document}
 use Rattle.enum_defs.specs.Words.{same_type}
-use Rattle.merge_laws.specs.Laws.{Given, AreProper, ProperTypes, ProperPlain, IsProper}
+use Rattle.merge_laws.specs.Laws.{Given, AreProper, AreKeywordsProper, ProperTypes, IsProper}
 use Rattle.convert_defs.specs.Row.{row_parts}
 use Rattle.convert_defs.specs.Table.{type_beside_null, only_type, row_of}
 use Rattle.convert_defs.proofs.Views.{schema_of, AllParts}
 use Rattle.convert_defs.proofs.Bare.{none-some, some-same}
-use Rattle.conversion_laws.proofs.Deep.{IsMadeToo}
-use Rattle.conversion_laws.proofs.Inside.{parts-in}
-
-abbrev Fit : Plain → Named → Type 0
-Fit p ns = ProperPlain p
+use Rattle.convert_defs.proofs.InsideParts.{IsMadeToo}
+use Rattle.convert_defs.proofs.Inside.{parts-in}
+use Rattle.each_schema.specs.Each.{of_any_size}
 
 -- a type that isn't `number` alone
 one-proper : (k : InstanceType) → same_type Number k ≡ false → AreProper (k ∷ [])
@@ -53,7 +51,7 @@ only-proper (Some (many_types [])) k e h = none-some k e
 only-proper (Some (many_types (l ∷ []))) k e h = subst (λ x. ProperTypes (one_type x)) (some-same l k e) h
 only-proper (Some (many_types (l ∷ m ∷ ks))) k e h = none-some k e
 
-made-too : IsMadeToo Fit
+made-too : IsMadeToo AreKeywordsProper
 made-too = record {
   one = λ k e. (one-proper k e, tt);
   of_objects = λ p ns h. (one-proper Object refl, tt);
@@ -67,5 +65,5 @@ made-too = record {
   no_const = λ p ns h. h;
 }
 
-pub parts-proper : (r : Relations) (d : Document) (s : Schema) → IsProper s → AllParts (λ p. IsProper (schema_of p)) (row_parts (row_of r d s))
-parts-proper r d s h = parts-in Fit made-too d r s h
+pub parts-fit : (r : Relations) (d : Document) (s : Schema) → IsProper s → AllParts (λ p. IsProper (schema_of p)) (row_parts (row_of r d s))
+parts-fit r d s h = parts-in AreKeywordsProper of_any_size made-too d r s h

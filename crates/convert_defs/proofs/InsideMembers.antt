@@ -6,7 +6,7 @@ use Rattle.json_value.specs.Value.{Value}
 use Rattle.schema_defs.specs.declared.InstanceType.{InstanceType}
 use Rattle.schema_defs.specs.declared.InstanceType.TheVariants.{Null, Boolean, Object, Array, Number, Text, Integer}
 use Rattle.schema_defs.specs.Location.{Step}
-use Rattle.schema_defs.specs.Schema.{Plain, Schema, boolean, object, Same, same_value, Named, no_schema, the_schema, no_list, the_list, Schemas, no_more, schema, Document}
+use Rattle.schema_defs.specs.Schema.{Plain, Schema, boolean, object, Same, same_value, Named, no_schema, the_schema, no_list, the_list, Schemas, no_more, schema, Document, ListRules}
 use Rattle.model_defs.specs.Model.{deny_rule}
 use Rattle.model_defs.specs.Layer.{is_text, is_boolean}
 use Rattle.convert_defs.specs.Row.{Part, made, VariantRow, Row, leaf_row, ruled_row, refused_row, noted, plainly, here, narrowed, not_note, nested_enum, bad_not}
@@ -18,8 +18,9 @@ use Rattle.enum_defs.specs.Shapes.{the_only as only_one, is_null_schema}
 use Rattle.enum_defs.specs.Exclusive.{exclusive}
 use Rattle.convert_defs.specs.Table.{listed, type_of_listed, has_one_type, no_others, subschema_finding, finding_or, all_of_finding, any_of_finding, any_of_others, one_of_finding, one_of_only, one_of_internal, one_of_adjacent, one_of_external, one_of_option, only_member, not_finding, deny, under_not, denied, untagged_row, untagged_variant}
 use Rattle.convert_defs.proofs.Bare.{none-some, some-same}
-use Rattle.conversion_laws.proofs.Deep.{Deep, DeepSame, DeepAll, IsMadeToo, In as PartIn, AllIn as RowIn, MembersIn as AllMembersIn, VariantsIn as AllVariantsIn, of-one-type}
-use Rattle.conversion_laws.proofs.InsideShapes.{internal-in, adjacent-in, external-in}
+use Rattle.each_schema.specs.Each.{EachSchema, EachInSame, EachInAll}
+use Rattle.convert_defs.proofs.InsideParts.{IsMadeToo, In as PartIn, AllIn as RowIn, MembersIn as AllMembersIn, VariantsIn as AllVariantsIn, of-one-type}
+use Rattle.convert_defs.proofs.InsideShapes.{internal-in, adjacent-in, external-in}
 
 abbrev is_text_type : Option InstanceType → Bool
 is_text_type (Some Text) = true
@@ -33,22 +34,22 @@ abbrev is_integer_type : Option InstanceType → Bool
 is_integer_type (Some Integer) = true
 is_integer_type _ = false
 
-module _ (At : Plain → Named → Type 0) (made_here : IsMadeToo At) (d : Document) where
+module _ (At : Plain → Named → Type 0) (sized : ListRules → Type 0) (made_here : IsMadeToo At) (d : Document) where
   abbrev In : Part → Type 0
-  In = PartIn At
+  In = PartIn At sized
 
   abbrev AllIn : Row → Type 0
-  AllIn = RowIn At
+  AllIn = RowIn At sized
 
   abbrev MembersIn : List Member → Type 0
-  MembersIn = AllMembersIn At
+  MembersIn = AllMembersIn At sized
 
   abbrev VariantsIn : List VariantRow → Type 0
-  VariantsIn = AllVariantsIn At
+  VariantsIn = AllVariantsIn At sized
 
   -- ---- members
 
-  members-in : (k : Step) (i : ℕ) (us : Schemas) → DeepAll At us → MembersIn (members_from k i us)
+  members-in : (k : Step) (i : ℕ) (us : Schemas) → EachInAll At sized us → MembersIn (members_from k i us)
   members-in k i no_more h = tt
   members-in k i (schema u us) h = (h.0, members-in k (suc i) us h.1)
 
@@ -64,20 +65,20 @@ module _ (At : Plain → Named → Type 0) (made_here : IsMadeToo At) (d : Docum
       by true g = (h.0, g)
       by false g = g
 
-  only-in : (ms : List Member) (m : Member) → MembersIn ms → only_one ms ≡ Some m → Deep At m.1
+  only-in : (ms : List Member) (m : Member) → MembersIn ms → only_one ms ≡ Some m → EachSchema At sized m.1
   only-in [] m h e = none-some m e
-  only-in (n ∷ []) m h e = subst (λ x. Deep At x.1) (some-same n m e) h.0
+  only-in (n ∷ []) m h e = subst (λ x. EachSchema At sized x.1) (some-same n m e) h.0
   only-in (n ∷ l ∷ ms) m h e = none-some m e
 
-  member-in : (ms : List Member) (m : Member) → MembersIn ms → only_member ms ≡ Some m → Deep At m.1
+  member-in : (ms : List Member) (m : Member) → MembersIn ms → only_member ms ≡ Some m → EachSchema At sized m.1
   member-in [] m h e = none-some m e
-  member-in (n ∷ []) m h e = subst (λ x. Deep At x.1) (some-same n m e) h.0
+  member-in (n ∷ []) m h e = subst (λ x. EachSchema At sized x.1) (some-same n m e) h.0
   member-in (n ∷ l ∷ ms) m h e = none-some m e
 
-  option-in : (ms : List Member) (m : Member) → MembersIn ms → option_shape ms ≡ Some m → Deep At m.1
+  option-in : (ms : List Member) (m : Member) → MembersIn ms → option_shape ms ≡ Some m → EachSchema At sized m.1
   option-in ms m h e = by (nat_le 2 (length ms)) e
     where
-      by : (b : Bool) → (if b then only_one (filter (λ n. not (is_null_schema n.1)) ms) else None) ≡ Some m → Deep At m.1
+      by : (b : Bool) → (if b then only_one (filter (λ n. not (is_null_schema n.1)) ms) else None) ≡ Some m → EachSchema At sized m.1
       by true g = only-in (filter (λ n. not (is_null_schema n.1)) ms) m (kept-in (λ n. not (is_null_schema n.1)) ms h) g
       by false g = none-some m g
 
@@ -89,15 +90,15 @@ module _ (At : Plain → Named → Type 0) (made_here : IsMadeToo At) (d : Docum
       only None e = untagged-in ms h
 
       internal : (x : Option TaggedShape) → internal_shape d.setting ms ≡ x → AllIn (one_of_internal d ms x).row
-      internal (Some t) e = internal-in At made_here d d.setting ms t h e
+      internal (Some t) e = internal-in At sized made_here d d.setting ms t h e
       internal None e = only (only_member ms) refl
 
       adjacent : (x : Option TaggedShape) → adjacent_shape ms ≡ x → AllIn (one_of_adjacent d ms x).row
-      adjacent (Some t) e = adjacent-in At made_here d ms t h e
+      adjacent (Some t) e = adjacent-in At sized made_here d ms t h e
       adjacent None e = internal (internal_shape d.setting ms) refl
 
       external : (x : Option (List VariantRow)) → external_members ms ≡ x → AllIn (one_of_external d ms x).row
-      external (Some ws) e = external-in At made_here d ms ws h e
+      external (Some ws) e = external-in At sized made_here d ms ws h e
       external None e = adjacent (adjacent_shape ms) refl
 
       optional : (x : Option Member) → option_shape ms ≡ x → AllIn (one_of_option d ms x).row
@@ -130,13 +131,13 @@ module _ (At : Plain → Named → Type 0) (made_here : IsMadeToo At) (d : Docum
 
   denied-in : (o : Option InstanceType) (vs : List Value) → (o ≡ Some Number → ⊥) → AllIn (denied o vs).row
   denied-in None vs e = tt
-  denied-in (Some Null) vs e = deny-in (made (alone (of_type Null no_keyword))) vs (of-one-type At made_here Null refl)
-  denied-in (Some Boolean) vs e = deny-in (made (alone (of_type Boolean no_keyword))) vs (of-one-type At made_here Boolean refl)
-  denied-in (Some Object) vs e = deny-in (made (alone (of_type Object no_keyword))) vs (of-one-type At made_here Object refl)
-  denied-in (Some Array) vs e = deny-in (made (alone (of_type Array no_keyword))) vs (of-one-type At made_here Array refl)
+  denied-in (Some Null) vs e = deny-in (made (alone (of_type Null no_keyword))) vs (of-one-type At sized made_here Null refl)
+  denied-in (Some Boolean) vs e = deny-in (made (alone (of_type Boolean no_keyword))) vs (of-one-type At sized made_here Boolean refl)
+  denied-in (Some Object) vs e = deny-in (made (alone (of_type Object no_keyword))) vs (of-one-type At sized made_here Object refl)
+  denied-in (Some Array) vs e = deny-in (made (alone (of_type Array no_keyword))) vs (of-one-type At sized made_here Array refl)
   denied-in (Some Number) vs e = absurd (e refl)
-  denied-in (Some Text) vs e = deny-in (made (alone (of_type Text no_keyword))) vs (of-one-type At made_here Text refl)
-  denied-in (Some Integer) vs e = deny-in (made (alone (of_type Integer no_keyword))) vs (of-one-type At made_here Integer refl)
+  denied-in (Some Text) vs e = deny-in (made (alone (of_type Text no_keyword))) vs (of-one-type At sized made_here Text refl)
+  denied-in (Some Integer) vs e = deny-in (made (alone (of_type Integer no_keyword))) vs (of-one-type At sized made_here Integer refl)
 
   never-number : (vs : List Value) → type_of_listed vs ≡ Some Number → ⊥
   never-number [] e = none-some Number e
@@ -148,7 +149,7 @@ module _ (At : Plain → Named → Type 0) (made_here : IsMadeToo At) (d : Docum
       by false false true e = true≢false (ap is_integer_type e)
       by false false false e = none-some Number e
 
-  not-in : (n : List ℕ) (u : Schema) → Deep At u → AllIn (not_finding n u).row
+  not-in : (n : List ℕ) (u : Schema) → EachSchema At sized u → AllIn (not_finding n u).row
   not-in n (boolean true) h = tt
   not-in n (boolean false) h = tt
   not-in n (object q sq lq nq) h = by (is_none q.types && no_others q lq nq && without_same sq) (has_one_type q.types && is_some q.enum_values) (is_none q.types && is_some q.enum_values && no_others (less_enum q) lq nq && without_same sq)
@@ -159,7 +160,7 @@ module _ (At : Plain → Named → Type 0) (made_here : IsMadeToo At) (d : Docum
       by false false true = denied-in (type_of_listed (listed q.enum_values)) (listed q.enum_values) (never-number (listed q.enum_values))
       by false false false = tt
 
-  pub subschemas-in : (n : List ℕ) (x : Same) → DeepSame At x → AllIn (finding_or (subschema_finding d n x)).row
+  pub subschemas-in : (n : List ℕ) (x : Same) → EachInSame At sized x → AllIn (finding_or (subschema_finding d n x)).row
   subschemas-in n (same_value (the_list us) no_list no_list no_schema false) h = all-of-in (members_from (codes "allOf") 0 us) (members-in (codes "allOf") 0 us h.0)
   subschemas-in n (same_value no_list (the_list us) no_list no_schema false) h = any-of-in n (members_from (codes "anyOf") 0 us) (members-in (codes "anyOf") 0 us h.1)
   subschemas-in n (same_value no_list no_list (the_list us) no_schema false) h = one-of-in n (members_from (codes "oneOf") 0 us) (members-in (codes "oneOf") 0 us h.2)

@@ -1,5 +1,0 @@
-use Rattle.default_defs.proofs.Stays.{ended_stays}
-use Rattle.default_defs.proofs.laws.ended_stays.Goals as goal
-
-pub returns : goal.returns
-returns c = ended_stays
