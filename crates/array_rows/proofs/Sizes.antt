@@ -10,8 +10,8 @@ use Rattle.schema_types.specs.View.{schema_view, schemas_view}
 use Rattle.schema_types.specs.declared.schema.Schema.{Schema}
 use Rattle.convert_defs.specs.Row.{child}
 use Rattle.convert_defs.specs.Owners.{one_size, above_zero, fixed_size, array_finding, sized_finding, listed_parts, listed_places, unlisted}
-use Rattle.row_types.specs.declared.part.Part.{Part}
-use Rattle.row_types.specs.View.{part_view}
+use Rattle.row_findings.specs.declared.part.Part.{Part}
+use Rattle.row_findings.specs.View.{part_view}
 use Rattle.array_rows.specs.Parts.{rules_in, places_in, rest_in, contains_in}
 
 pub parts_seen : (ls : Lists) → array_finding ls ≡ sized_finding (places_in ls) (rest_in ls) (contains_in ls) (rules_in ls) (fixed_size (rules_in ls) (contains_in ls))

@@ -5,16 +5,16 @@ ghost use Rattle.schema_defs.specs.Texts.{Relations};
 ghost use Rattle.schema_types.specs.View.{array_view, lists_of};
 ghost use Rattle.convert_defs.specs.Row.{add_notes};
 ghost use Rattle.convert_defs.specs.Owners.{one_size as one_size_of, fixed_size as fixed_size_of, each_part as each_part_of, is_true as is_true_of, above_zero as above_zero_of, open_list as open_list_of, is_by_place as is_by_place_of, array_finding as array_finding_of, sized_finding};
-ghost use Rattle.row_types.specs.View.{note_view, row_view, finding_view};
+ghost use Rattle.row_findings.specs.View.{note_view, row_view, finding_view};
 ghost use Rattle.array_rows.specs.Parts.{rules_in, places_in, rest_in, contains_in, is_bounded as is_bounded_of};
 
 use crate::places::{each_part, fixed_finding, is_by_place};
-use row_types::{Cause, Finding, Note, NoteKind, Row, Way, anything, noted, with_note};
+use row_findings::{Cause, Finding, Note, NoteKind, Row, Way, anything, noted, with_note};
 use schema_types::ArrayValidation;
 use std::alloc::{AllocError, Global};
 
 /// The row of arrays by the keywords of lists, with the notes that are given before.
-#[tactic(auto, using(row_types::proofs::PlainRows::plain_noted))]
+#[tactic(auto, using(row_findings::proofs::PlainRows::plain_noted))]
 pub fn array_finding<'d>(
     alloc: Global,
     notes: Vec<Note<'d>>,
@@ -135,7 +135,7 @@ fn open_list<'d>(lists: &'d ArrayValidation) -> Row<'d>
 }
 
 // Where there is no one size.
-#[tactic(auto, using(row_types::proofs::PlainRows::plain_noted))]
+#[tactic(auto, using(row_findings::proofs::PlainRows::plain_noted))]
 fn open_finding<'d>(
     alloc: Global,
     notes: Vec<Note<'d>>,

@@ -5,10 +5,10 @@ ghost use Rattle.schema_defs.specs.Texts.{Relations};
 ghost use Rattle.schema_types.specs.View.{array_view, items_view, schemas_view, maybe_view};
 ghost use Rattle.convert_defs.specs.Row.{add_notes};
 ghost use Rattle.convert_defs.specs.Owners.{each_part as each_part_of, is_by_place as is_by_place_of, listed_parts as listed_parts_of, listed_places, unlisted as unlisted_of, filled_places as filled_places_of, fixed_row as fixed_row_of, sized_finding};
-ghost use Rattle.row_types.specs.View.{note_view, part_view, row_view, finding_view};
+ghost use Rattle.row_findings.specs.View.{note_view, part_view, row_view, finding_view};
 ghost use Rattle.array_rows.specs.Parts.{rules_in, places_in, rest_in, contains_in};
 
-use row_types::{
+use row_findings::{
     Finding, Keyword, Note, Part, PartKind, Row, Source, Steps, anything, noted, part_under,
 };
 use schema_types::{ArrayValidation, Items, Schema};
@@ -169,7 +169,7 @@ fn fixed_row<'d>(
 }
 
 /// Lists of one size, with the notes that are given before.
-#[tactic(auto, using(row_types::proofs::PlainRows::plain_noted))]
+#[tactic(auto, using(row_findings::proofs::PlainRows::plain_noted))]
 pub fn fixed_finding<'d>(
     alloc: Global,
     notes: Vec<Note<'d>>,

@@ -5,7 +5,7 @@ use crate::case::Case;
 use crate::item::{container_of, field_of, holder_of, name, variant_of};
 use crate::show::{show_container, show_field, show_place, show_variant};
 use attr_parts::{Ctxt, Default, RenameAllRules, RenameRule, Renamer};
-use attr_readers::attr;
+use derive_attr::attr;
 use rust_syntax::{Attribute, Field, ParseFault};
 use std::alloc::{AllocError, Global};
 use std::fmt::Write;

@@ -1,6 +1,6 @@
 //! What attributes say, as text: parts with `; ` between two.
 use attr_parts::{Default, Identifier, MultiName, Name, RenameAllRules, RenameRule, TagType};
-use attr_readers::attr;
+use derive_attr::attr;
 use rust_syntax::{ExprPath, Lifetime, Path, ToTokens, Ty, WherePredicate};
 use rust_tokens::{Span, TokenStream};
 use std::alloc::AllocError;

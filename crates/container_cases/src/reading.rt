@@ -7,7 +7,7 @@ use crate::show::{show_container, show_place};
 use crate::texts::texts_answer;
 use attr_parts::{Ctxt, Derive, Diagnostic, RenameRule, Renamer};
 use case_items::{item_of, no_case};
-use container_readers::Container;
+use derive_ast::Container;
 use rust_syntax::{DeriveInput, ParseFault};
 use rust_tokens::{Ident, LexError, Span, TokenStream, lex};
 use std::alloc::{AllocError, Global};

@@ -1,6 +1,6 @@
 //! Containers as text.
 use attr_parts::{MultiName, Name, TagType};
-use container_readers::{Container, Data, Field, Style, Variant};
+use derive_ast::{Container, Data, Field, Style, Variant};
 use rust_syntax::Member;
 use rust_tokens::Span;
 use std::alloc::AllocError;

@@ -6,8 +6,8 @@ use Rattle.schema_defs.specs.Schema.{Schema, Document}
 use Rattle.merge_walks.specs.Carried.{has_more_steps}
 use Rattle.convert_walks.specs.Spot.{Spot, spot_inside}
 use Rattle.convert_walks.specs.Tree.{Node, cut, too_many_steps, deep_branches}
-use Rattle.row_types.specs.declared.finding.Branch.{Branch}
-use Rattle.row_types.specs.View.{branch_view}
+use Rattle.row_findings.specs.declared.finding.Branch.{Branch}
+use Rattle.row_findings.specs.View.{branch_view}
 use Rattle.schema_tree.specs.Fault.{FaultD, memory, depth}
 use Rattle.convert_trees.specs.Told.{Refuses}
 use Rattle.merged_rows.proofs.Trails.{drop_past}

@@ -9,9 +9,9 @@ use Rattle.entry_defs.specs.Entry.{Target}
 use Rattle.convert_defs.specs.Row.{Row, refused_row, Finding, plainly, Cause, mix, places, bad_pattern}
 use Rattle.convert_defs.specs.Table.{target_of, row_of_target, reference_row}
 use Rattle.convert_defs.specs.Faults.{row_faults, fault_if, finding_faults}
-use Rattle.row_types.specs.declared.finding.Cause.{Cause as CodeCause}
-use Rattle.row_types.specs.declared.finding.Cause.TheVariants as causes
-use Rattle.row_types.specs.View.{cause_view}
+use Rattle.row_findings.specs.declared.finding.Cause.{Cause as CodeCause}
+use Rattle.row_findings.specs.declared.finding.Cause.TheVariants as causes
+use Rattle.row_findings.specs.View.{cause_view}
 use Rattle.schema_tree.specs.Fault.{FaultD, memory}
 use Rattle.convert_trees.specs.Told.{told_cause, no_memory, RefusesBy, unanswered, by_cause, RowRefuses, without_memory, by_refusal}
 

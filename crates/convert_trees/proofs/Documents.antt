@@ -12,8 +12,8 @@ use Rattle.convert_defs.specs.Convert.{as_item}
 use Rattle.convert_walks.specs.Tree.{Node, definition_spot, definition_target, definition_trees, entry_at, tree_at}
 use Rattle.schema_tree.specs.Fault.{FaultD}
 use Rattle.root_references.proofs.Found.{found, stands_at}
-use Rattle.row_merges.specs.Definitions.{is_under_defs, begun_at, named_spot}
-use Rattle.row_merges.specs.Merges.{merges_in}
+use Rattle.document_merges.specs.Definitions.{is_under_defs, begun_at, named_spot}
+use Rattle.document_merges.specs.Merges.{merges_in}
 use Rattle.convert_trees.specs.Keeping.{KeptD}
 use Rattle.convert_trees.specs.Told.{IsTold, Refuses, Begins}
 use Rattle.convert_trees.proofs.Telling.{Passed, passed_none, passed_on, passed_all, passed_refuses, passed_begins}

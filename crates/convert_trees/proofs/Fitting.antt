@@ -8,7 +8,7 @@ use Rattle.convert_defs.specs.Row.{Row, leaf_row}
 use Rattle.convert_defs.specs.Scalars.{listed_entry}
 use Rattle.convert_defs.specs.Table.{target_of, row_of_target, reference_row}
 use Rattle.convert_defs.specs.Values.{fits_row, keeps_bounds}
-use Rattle.scalar_takes.specs.Unread.{first_of}
+use Rattle.listed_reading.specs.Unread.{first_of}
 use Rattle.convert_trees.specs.Unread.{fits_by, stated_default}
 
 -- ---- rows that aren't that of integers

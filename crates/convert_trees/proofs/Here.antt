@@ -16,7 +16,7 @@ use Rattle.convert_walks.specs.Told.{Note, Reason, by_row, placed_note, notes_in
 use Rattle.schema_tree.specs.Fault.{FaultD, memory, depth}
 use Rattle.row_trees.specs.Build.{built}
 use Rattle.row_trees.proofs.Rows.{rows_are_built}
-use Rattle.row_merges.specs.Merges.{MergeD, merges_in}
+use Rattle.document_merges.specs.Merges.{MergeD, merges_in}
 use Rattle.convert_trees.specs.Keeping.{KeptD, with_unread}
 use Rattle.convert_trees.specs.Unread.{unread_of, unread_in}
 use Rattle.convert_trees.specs.Told as told

@@ -14,7 +14,7 @@ use Rattle.convert_walks.specs.Told.{Note as PlacedNote, by_merge, too_deep, pla
 use Rattle.merged_rows.specs.Rows.{handed_on}
 use Rattle.merged_rows.specs.Told as merged
 use Rattle.merged_rows.specs.Told.{TellsMerge}
-use Rattle.row_merges.specs.Merges.{MergeD, refused, stands, unhanded, merge_of_row, merges_in}
+use Rattle.document_merges.specs.Merges.{MergeD, refused, stands, unhanded, merge_of_row, merges_in}
 use Rattle.schema_tree.specs.Fault.{FaultD}
 use Rattle.convert_trees.specs.Keeping.{KeptD, with_unread}
 use Rattle.convert_trees.specs.Unread.{unread_of, unread_in}

@@ -3,8 +3,8 @@ use Rattle.std.proofs.Common.{◌≡◌, List, [], ◌∷◌, Bool, true, false,
 use Rattle.json_value.specs.Value.{Value, null, boolean, number, text, list, object, fraction}
 use Rattle.schema_types.specs.View.{kept_view}
 use Rattle.convert_defs.specs.Scalars.{non_null}
-use Rattle.row_types.specs.Given.{given_values_view}
-use Rattle.row_types.specs.declared.given.GivenValues.{GivenValues}
+use Rattle.row_findings.specs.Given.{given_values_view}
+use Rattle.row_findings.specs.declared.given.GivenValues.{GivenValues}
 use Rattle.convert_trees.specs.Told.{first_odd}
 
 without_null : (vs : List Value) → first_odd (non_null vs) ≡ first_odd vs

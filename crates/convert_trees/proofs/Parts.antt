@@ -6,11 +6,11 @@ use Rattle.entry_defs.specs.Entry.{Entry}
 use Rattle.convert_defs.specs.Row.{Part}
 use Rattle.convert_walks.specs.Spot.{Spot, Branches, part_spot, part_schema}
 use Rattle.convert_walks.specs.Tree.{Node, entry_at, tree_at, parts_trees}
-use Rattle.row_types.specs.View.{part_view}
-use Rattle.row_merges.specs.Merges.{merges_in}
+use Rattle.row_findings.specs.View.{part_view}
+use Rattle.document_merges.specs.Merges.{merges_in}
 use Rattle.schema_tree.specs.Fault.{FaultD}
-use Rattle.row_merges.specs.declared.listed.Listed.{Listed}
-use Rattle.row_merges.specs.Listed.{listed_view}
+use Rattle.document_merges.specs.declared.listed.Listed.{Listed}
+use Rattle.document_merges.specs.Listed.{listed_view}
 use Rattle.convert_trees.specs.Keeping.{KeptD}
 use Rattle.convert_trees.specs.Told.{IsTold, Refuses, Begins}
 use Rattle.merged_rows.proofs.Trails.{drop_past}

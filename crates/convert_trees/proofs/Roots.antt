@@ -18,7 +18,7 @@ use Rattle.merge_walks.specs.Carried.{root_walk, has_more_steps}
 use Rattle.convert_walks.specs.Spot.{Spot}
 use Rattle.convert_walks.specs.Tree.{Node, if_merged, below, definition_target, definition_trees, document_tree, entry_at, root_entry, root_spot, root_targets, root_use, table_of, tree_at}
 use Rattle.convert_walks.specs.Told.{faults_of, notes_in}
-use Rattle.row_merges.specs.Merges.{MergeD, merges_in}
+use Rattle.document_merges.specs.Merges.{MergeD, merges_in}
 use Rattle.schema_tree.specs.Fault.{FaultD}
 use Rattle.convert_trees.specs.Tables.{root_targets_of, root_use_of}
 use Rattle.convert_trees.specs.Unread.{At, first_kept, is_given, stated_default, unread_by, unread_in_document, unread_in, unread_of}

@@ -5,8 +5,8 @@ use Rattle.schema_defs.specs.Texts.{Relations}
 use Rattle.schema_defs.specs.Schema.{Schema, Document}
 use Rattle.entry_defs.specs.Entry.{Entry}
 use Rattle.convert_walks.specs.Tree.{Node}
-use Rattle.row_types.specs.declared.row.Row.{Row as CodeRow}
-use Rattle.row_types.specs.View.{row_view}
+use Rattle.row_findings.specs.declared.row.Row.{Row as CodeRow}
+use Rattle.row_findings.specs.View.{row_view}
 use Rattle.convert_trees.specs.declared.keeping.Unread.{Unread}
 use Rattle.convert_trees.specs.Unread.{unread_of, unread_in}
 use Rattle.convert_trees.specs.Keeping.{KeptD, unread_view, with_before_if}

@@ -10,7 +10,7 @@ use Rattle.model_defs.specs.Model.{RuleD}
 use Rattle.entry_defs.specs.Entry.{Entry}
 use Rattle.convert_defs.specs.Row.{Row, leaf_row, as_it_is_row, option_row, ruled_row, vec_row, set_row, array_row, tuple_row, map_row, pattern_map_row, struct_row, enum_row, merged_row, refused_row}
 use Rattle.convert_defs.specs.Values.{inner_of, listed_by, listed_in}
-use Rattle.scalar_takes.specs.Unread.{first_of as first_value}
+use Rattle.listed_reading.specs.Unread.{first_of as first_value}
 use Rattle.convert_trees.specs.Unread.{At, unread_by, unread_of, unread_values, first_before, rule_in}
 use Rattle.convert_trees.specs.Keeping.{ValuesD, with_before}
 

@@ -3,11 +3,11 @@ use Rattle.std.proofs.Common.{◌≡◌, refl}
 use Rattle.schema_defs.specs.Location.{Location}
 use Rattle.schema_defs.specs.Schema.{Schema}
 use Rattle.convert_walks.specs.Spot.{part_schema}
-use Rattle.row_types.specs.declared.part.Part.{Part as CodePart}
-use Rattle.row_types.specs.declared.part.PartKind.{PartKind}
-use Rattle.row_types.specs.declared.part.PartKind.TheVariants as kinds
-use Rattle.row_types.specs.Given.{source_view}
-use Rattle.row_types.specs.View.{part_by, part_view, steps_view}
+use Rattle.row_findings.specs.declared.part.Part.{Part as CodePart}
+use Rattle.row_findings.specs.declared.part.PartKind.{PartKind}
+use Rattle.row_findings.specs.declared.part.PartKind.TheVariants as kinds
+use Rattle.row_findings.specs.Given.{source_view}
+use Rattle.row_findings.specs.View.{part_by, part_view, steps_view}
 
 by_kind : (k : PartKind) (l : Location) (s : Schema) → part_schema (part_by k l s) ≡ s
 by_kind kinds.Child l s = refl

@@ -11,7 +11,7 @@ use Rattle.merge_walks.specs.Carried.{last_of}
 use Rattle.convert_walks.specs.Spot.{Spot}
 use Rattle.convert_walks.specs.Tree.{Node, cut, too_many_steps}
 use Rattle.convert_walks.specs.Told.{notes_in, state_notes, faults_in, state_faults, too_deep}
-use Rattle.row_merges.specs.Merges.{MergeD, merges_in, state_merges}
+use Rattle.document_merges.specs.Merges.{MergeD, merges_in, state_merges}
 use Rattle.convert_trees.specs.Unread.{At, unread_of, unread_in, first_kept, first_before_if}
 use Rattle.convert_trees.specs.Keeping.{KeptD, ValuesD, with_unread}
 use Rattle.convert_trees.specs.Told as told

@@ -2,10 +2,10 @@
 use Rattle.std.specs.Prelude.{Bool, List, Option, drop, option_map}
 use Rattle.schema_types.specs.View.{kept_view as value_kept}
 use Rattle.entry_defs.specs.Table.{Table}
-use Rattle.entry_trees.specs.View.{table_view}
+use Rattle.tree_types.specs.View.{table_view}
 use Rattle.convert_walks.specs.Told.{Note}
 use Rattle.note_order.specs.Notes.{notes_view}
-use Rattle.row_merges.specs.Merges.{MergeD, merges_view}
+use Rattle.document_merges.specs.Merges.{MergeD, merges_view}
 use Rattle.convert_trees.specs.Unread.{At, first_before, first_before_if, first_kept}
 use Rattle.convert_trees.specs.declared.keeping.Unread.{Unread}
 use Rattle.convert_trees.specs.declared.keeping.Values.{Values}

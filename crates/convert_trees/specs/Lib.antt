@@ -2,5 +2,5 @@ pub mod Tables
 pub mod Told
 pub mod Unread
 pub mod Keeping
-pub use Rattle.row_merges.specs.Merges
+pub use Rattle.document_merges.specs.Merges
 pub mod UnreadExamples

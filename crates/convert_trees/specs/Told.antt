@@ -11,13 +11,13 @@ use Rattle.convert_defs.specs.Row.{Row, leaf_row, as_it_is_row, option_row, rule
 use Rattle.convert_defs.specs.Table.{finding_of}
 use Rattle.convert_walks.specs.Tree.{Node}
 use Rattle.convert_walks.specs.Told.{Reason, by_row, by_merge, too_deep, by_levels, notes_in, state_faults, faults_in}
-use Rattle.row_types.specs.declared.finding.Cause.{Cause as CodeCause}
-use Rattle.row_types.specs.View.{cause_view}
+use Rattle.row_findings.specs.declared.finding.Cause.{Cause as CodeCause}
+use Rattle.row_findings.specs.View.{cause_view}
 use Rattle.schema_tree.specs.declared.fault.InvalidKind.TheVariants as invalid
 use Rattle.schema_tree.specs.declared.fault.UnsupportedKind.TheVariants as kind
 use Rattle.schema_tree.specs.Fault.{FaultD, memory, depth, places, bad_value, invalid_schema, unsupported, texts}
 use Rattle.merge_faults.specs.Faults.{unmerged_kind}
-use Rattle.row_merges.specs.Merges.{MergeD, merges_in}
+use Rattle.document_merges.specs.Merges.{MergeD, merges_in}
 use Rattle.convert_trees.specs.Unread.{unread_of, unread_in}
 use Rattle.convert_trees.specs.Keeping.{KeptD, with_unread}
 

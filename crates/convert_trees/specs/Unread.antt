@@ -10,7 +10,7 @@ use Rattle.entry_defs.specs.Table.{Table}
 use Rattle.model_defs.specs.Model.{RuleD}
 use Rattle.default_defs.specs.Found.{is_ended}
 use Rattle.default_defs.specs.Supplied.{supplied}
-use Rattle.scalar_takes.specs.Unread.{unread}
+use Rattle.listed_reading.specs.Unread.{unread}
 use Rattle.convert_defs.specs.Owners.{default_of}
 use Rattle.convert_defs.specs.Row.{Row, leaf_row, as_it_is_row, option_row, ruled_row, vec_row, set_row, array_row, tuple_row, map_row, pattern_map_row, struct_row, enum_row, merged_row, refused_row}
 use Rattle.convert_defs.specs.Table.{row_of}

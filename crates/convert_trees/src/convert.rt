@@ -12,16 +12,16 @@ ghost use Rattle.convert_defs.specs.Table.{finding_of};
 ghost use Rattle.convert_walks.specs.Spot.{part_schema, part_spot, spot_inside};
 ghost use Rattle.convert_walks.specs.Told.{merge_faults, placed_note};
 ghost use Rattle.convert_walks.specs.Tree.{deep_branches, entry_at, if_merged, parts_trees, tree_at};
-ghost use Rattle.row_types.specs.Given.{source_view};
-ghost use Rattle.row_types.specs.View.{branch_view, finding_view, note_view, part_view, row_view, steps_view};
-ghost use Rattle.entry_trees.specs.View.{tree_view};
+ghost use Rattle.row_findings.specs.Given.{source_view};
+ghost use Rattle.row_findings.specs.View.{branch_view, finding_view, note_view, part_view, row_view, steps_view};
+ghost use Rattle.tree_types.specs.View.{tree_view};
 ghost use Rattle.merge_walks.specs.Carried.{has_more_steps};
 ghost use Rattle.merge_defs.specs.Outcome.{Note as MergeNoteOf, Outcome};
 ghost use Rattle.merged_rows.specs.Rows.{handed_on};
 ghost use Rattle.merged_rows.specs.Starts.{handed_to, path_by, place_spot, spot_of, walk_by};
 ghost use Rattle.merged_rows.specs.Told.{TellsMerge};
-ghost use Rattle.row_merges.specs.Listed.{listed_view};
-ghost use Rattle.row_merges.specs.Merges.{end_view, merge_of_row, merge_view, merges_in};
+ghost use Rattle.document_merges.specs.Listed.{listed_view};
+ghost use Rattle.document_merges.specs.Merges.{end_view, merge_of_row, merge_view, merges_in};
 ghost use Rattle.row_trees.specs.Build.{built};
 ghost use Rattle.convert_trees.specs.Keeping.{kept_view, with_before_if};
 ghost use Rattle.convert_trees.specs.Told.{Begins, IsTold, IsToldOf, NoAnswer, Refuses, RefusesOf};
@@ -35,18 +35,18 @@ use crate::notes::{keep_merge_notes, keep_notes};
 use crate::own::check_own;
 use crate::scope::Scope;
 use crate::unread::keep_unless;
-use entry_trees::Tree;
+use document_merges::{Listed, Merge, MergeEnd, finding};
 use merge_parts::MergeFault;
 use merged_rows::{
     Place, Standing, is_deep, merge_fault, merged_parts, place_inside, place_of_part, start_at,
     too_deep,
 };
-use row_merges::{Listed, Merge, MergeEnd, finding};
+use row_findings::{Branch, Finding, Part, PartKind, Row, Source, Steps};
 use row_trees::row_tree;
-use row_types::{Branch, Finding, Part, PartKind, Row, Source, Steps};
 use schema_tree::{Fault, Texts};
 use schema_types::Schema;
 use std::collections::VecDeque;
+use tree_types::Tree;
 
 fn found<'d>(scope: &Scope<'d, '_>, source: &Source<'d>) -> Result<Finding<'d>, Fault>
     ensures finding { IfOk result (λ f. (r : Relations) → finding_view r f ≡ finding_of r (document_seen scope.now.document.now) (source_view source.now)) }

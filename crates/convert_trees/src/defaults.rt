@@ -8,11 +8,11 @@ ghost use Rattle.schema_tree.specs.Fault.{fault_view};
 ghost use Rattle.convert_defs.specs.Owners.{default_of as default_in};
 ghost use Rattle.convert_defs.specs.Row.{leaf_row};
 ghost use Rattle.convert_defs.specs.Values.{fits_row as fits_row_of, keeps_bounds as keeps_bounds_of};
-ghost use Rattle.row_types.specs.Given.{keywords_view, source_view};
-ghost use Rattle.row_types.specs.View.{leaf_view, row_view};
-ghost use Rattle.entry_trees.specs.View.{table_view, tree_view};
+ghost use Rattle.row_findings.specs.Given.{keywords_view, source_view};
+ghost use Rattle.row_findings.specs.View.{leaf_view, row_view};
+ghost use Rattle.tree_types.specs.View.{table_view, tree_view};
 ghost use Rattle.merged_rows.specs.Starts.{path_by};
-ghost use Rattle.scalar_takes.specs.Unread.{first_of as first_value};
+ghost use Rattle.listed_reading.specs.Unread.{first_of as first_value};
 ghost use Rattle.convert_trees.specs.Keeping.{values_view};
 ghost use Rattle.convert_trees.specs.Told.{NoAnswer};
 ghost use Rattle.convert_trees.specs.Unread.{fits_by, is_given as is_given_of, stated_default};
@@ -21,12 +21,12 @@ use crate::faults::text_fault;
 use crate::keeping::Values;
 use crate::scope::Scope;
 use default_reading::{default_found, is_ended};
-use entry_trees::{Tree, TreeTable};
 use integer_rows::is_bounded;
-use row_types::{Keywords, Leaf, Row, Source, Steps, keywords_of};
+use row_findings::{Keywords, Leaf, Row, Source, Steps, keywords_of};
 use schema_tree::{Fault, Texts};
 use schema_types::{Schema, SchemaObject};
 use serde_json::Value;
+use tree_types::{Tree, TreeTable};
 
 // The default that a schema states.
 fn default_of<'d>(source: &Source<'d>) -> Option<&'d Value>

@@ -4,14 +4,14 @@ ghost use Rattle.run_io.specs.Bytes.{Rises};
 ghost use Rattle.schema_types.specs.View.{kept_view, object_view, schema_view};
 ghost use Rattle.schema_tree.specs.Fault.{bad_value as bad_value_at, fault_view, memory, unsupported as unsupported_at};
 ghost use Rattle.convert_defs.specs.Row.{plainly, refused_row};
-ghost use Rattle.row_types.specs.Given.{given_values_view, source_view};
-ghost use Rattle.row_types.specs.View.{cause_view};
+ghost use Rattle.row_findings.specs.Given.{given_values_view, source_view};
+ghost use Rattle.row_findings.specs.View.{cause_view};
 ghost use Rattle.merged_rows.specs.Starts.{path_by};
 ghost use Rattle.convert_trees.specs.Told.{is_odd as is_odd_value, first_odd as first_odd_of, odd_in, odd_or, odd_value as odd_value_of, told_cause, NoAnswer};
 
 use crate::scope::Scope;
 use merged_rows::location_of;
-use row_types::{Cause, GivenValues, Source, Steps};
+use row_findings::{Cause, GivenValues, Source, Steps};
 use schema_tree::{Fault, InvalidKind, Schema, SchemaObject, TextFault, UnsupportedKind};
 use schema_types::Location;
 use serde_json::Value;

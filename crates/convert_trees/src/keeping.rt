@@ -1,9 +1,9 @@
 //! What conversion keeps beside trees.
-use entry_trees::TreeTable;
+use document_merges::Merge;
 use note_order::PlacedNote;
-use row_merges::Merge;
 use schema_types::Location;
 use serde_json::Value;
+use tree_types::TreeTable;
 
 /// A listed value, or a default, that isn't read, with the place of the schema.
 #[derive(Drop)]

@@ -14,8 +14,8 @@ mod scope;
 mod table;
 mod unread;
 
+pub use document_merges::{Merge, merges_at, merges_of};
 pub use keeping::{Kept, Unread, Values};
 pub use names::root_name;
 pub use note_order::PlacedNote;
-pub use row_merges::{Merge, merges_at, merges_of};
 pub use table::{Converted, definition_targets, nothing_kept, root_tree, table_of, tree_at};

@@ -3,9 +3,9 @@ ghost use Rattle.std.specs.Prelude.{◌≡◌, [], codes, option_map, string_byt
 ghost use Rattle.schema_types.specs.View.{object_view, schema_view};
 ghost use Rattle.convert_defs.specs.Convert.{named_by, root_name as root_name_of};
 ghost use Rattle.convert_defs.specs.Standing.{wanted, words_or};
-ghost use Rattle.row_types.specs.Given.{source_view};
+ghost use Rattle.row_findings.specs.Given.{source_view};
 
-use row_types::Source;
+use row_findings::Source;
 use schema_tree::{Schema, SchemaObject};
 
 fn words<'d>(title: Option<&'d String>, or: &'d str) -> &'d str

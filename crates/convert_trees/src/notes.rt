@@ -5,14 +5,14 @@ ghost use Rattle.convert_defs.specs.Convert.{Handed};
 ghost use Rattle.convert_walks.specs.Told.{merge_note, placed_note};
 ghost use Rattle.merge_parts.specs.View.{notes_view as merge_notes_view};
 ghost use Rattle.merged_rows.specs.Starts.{spot_of};
-ghost use Rattle.row_types.specs.View.{branch_view, note_view};
+ghost use Rattle.row_findings.specs.View.{branch_view, note_view};
 ghost use Rattle.convert_trees.specs.Keeping.{kept_view};
 
 use crate::keeping::Kept;
 use crate::scope::Scope;
 use merge_parts::MergeNote;
 use merged_rows::{push_merge_notes, push_row_notes};
-use row_types::{Finding, Steps};
+use row_findings::{Finding, Steps};
 use schema_tree::Fault;
 
 /// Adds the notes of the row that was found at the end of a trail.

@@ -7,15 +7,15 @@ ghost use Rattle.schema_tree.specs.Fault.{fault_view, memory};
 ghost use Rattle.convert_defs.specs.Faults.{fault_if, finding_faults, row_faults};
 ghost use Rattle.convert_defs.specs.Row.{bad_pattern as bad_pattern_cause, places as places_cause, plainly, refused_row};
 ghost use Rattle.convert_defs.specs.Table.{reference_row};
-ghost use Rattle.row_types.specs.Given.{source_view};
-ghost use Rattle.row_types.specs.View.{cause_view, finding_view, patterns_view, row_view};
+ghost use Rattle.row_findings.specs.Given.{source_view};
+ghost use Rattle.row_findings.specs.View.{cause_view, finding_view, patterns_view, row_view};
 ghost use Rattle.merged_rows.specs.Starts.{path_by};
 ghost use Rattle.convert_trees.specs.Told.{told_cause, RefusesBy, RowRefuses};
 
 use crate::faults::{refused_fault, text_fault};
 use crate::scope::Scope;
 use merged_rows::location_of;
-use row_types::{Cause, Finding, Row, Source, Steps};
+use row_findings::{Cause, Finding, Row, Source, Steps};
 use schema_tree::{Fault, InvalidKind, Texts};
 use tree_parts::{asked_patterns, target_named};
 

@@ -4,26 +4,26 @@ ghost use Rattle.schema_defs.specs.Texts.{Relations};
 ghost use Rattle.schema_types.specs.View.{kept_view as value_kept};
 ghost use Rattle.schema_tree.specs.Fault.{fault_view, memory};
 ghost use Rattle.convert_defs.specs.Values.{inner_of, listed_by, listed_in};
-ghost use Rattle.row_types.specs.Given.{source_view};
-ghost use Rattle.row_types.specs.View.{row_view, rule_view};
-ghost use Rattle.entry_trees.specs.View.{table_view, tree_view};
+ghost use Rattle.row_findings.specs.Given.{source_view};
+ghost use Rattle.row_findings.specs.View.{row_view, rule_view};
+ghost use Rattle.tree_types.specs.View.{table_view, tree_view};
 ghost use Rattle.convert_trees.specs.Keeping.{kept_view, values_view, with_before, with_before_if};
 ghost use Rattle.merged_rows.specs.Starts.{path_by};
 ghost use Rattle.convert_trees.specs.Told.{NoAnswer};
-ghost use Rattle.scalar_takes.specs.Unread.{first_of as first_value};
+ghost use Rattle.listed_reading.specs.Unread.{first_of as first_value};
 ghost use Rattle.convert_trees.specs.Unread.{rule_in, unread_by as unread_by_entry, unread_of, unread_values};
 
 use crate::defaults::unread_default;
 use crate::faults::text_fault;
 use crate::keeping::{Kept, Unread, Values};
 use crate::scope::Scope;
-use entry_trees::{Tree, TreeTable, Wrap};
+use listed_reading::{first_listed_by, first_unread_by};
 use merged_rows::location_of;
-use row_types::{Row, RowRule, Source, Steps};
-use scalar_takes::{first_listed_by, first_unread_by};
+use row_findings::{Row, RowRule, Source, Steps};
 use schema_tree::{Fault, Texts};
 use schema_types::Location;
 use serde_json::Value;
+use tree_types::{Tree, TreeTable, Wrap};
 
 // The rule of a row that lists values.
 fn rule_of<'d>(row: &Row<'d>) -> Option<RowRule<'d>>

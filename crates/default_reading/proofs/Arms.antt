@@ -3,8 +3,8 @@ use Rattle.std.proofs.Common.{◌≡◌, ℕ, List, [], ◌∷◌, Bool, true, f
 use Rattle.json_value.specs.Value.{Value, Members, no_members, member}
 use Rattle.schema_defs.specs.Texts.{Relations}
 use Rattle.entry_defs.specs.Entry.{Entry, State, stated, no_rest, FieldEntry, fields_of, rest_of}
-use Rattle.entry_trees.specs.View.{first_part, parts_of}
-use Rattle.entry_trees.specs.declared.tree.Tree.{Tree}
+use Rattle.tree_types.specs.View.{first_part, parts_of}
+use Rattle.tree_types.specs.declared.tree.Tree.{Tree}
 use Rattle.default_defs.specs.Found.{Found, refused, ended, both}
 use Rattle.default_defs.specs.Layer.{left_out}
 use Rattle.default_reading.specs.Seen.{Part, entry_of, fields_in, front_tree, kept, state_in}

@@ -2,17 +2,17 @@
 use Rattle.std.proofs.Common.{◌≡◌, ℕ, ◌+◌, List, [], ◌∷◌, Bool, Option, None, Some, Box, Vec, Global, refl, sym, ap, ◌∙◌, arith}
 use Rattle.model_defs.specs.Model.{TagModel}
 use Rattle.entry_defs.specs.Entry.{Entry, Fields, no_fields}
-use Rattle.row_types.specs.declared.row.TagRow.{TagRow}
-use Rattle.row_types.specs.View.{tag_view}
-use Rattle.entry_trees.specs.View.{atom_view, wrapped, fields_view, first_part, parts_of, rest_fields, tree_view}
-use Rattle.entry_trees.specs.declared.tree.Label.{Label}
-use Rattle.entry_trees.specs.declared.tree.Atom.{Atom}
-use Rattle.entry_trees.specs.declared.tree.Atom.TheVariants as atoms
-use Rattle.entry_trees.specs.declared.tree.Wrap.{Wrap}
-use Rattle.entry_trees.specs.declared.tree.Wrap.TheVariants as wraps
-use Rattle.entry_trees.specs.declared.tree.Tree.{Tree}
-use Rattle.entry_trees.specs.declared.tree.Tree.TheVariants as trees
-use Rattle.entry_trees.proofs.Seen.{atom_seen, one_seen, map_seen, tuple_seen, struct_seen, enum_seen}
+use Rattle.row_findings.specs.declared.row.TagRow.{TagRow}
+use Rattle.row_findings.specs.View.{tag_view}
+use Rattle.tree_types.specs.View.{atom_view, wrapped, fields_view, first_part, parts_of, rest_fields, tree_view}
+use Rattle.tree_types.specs.declared.tree.Label.{Label}
+use Rattle.tree_types.specs.declared.tree.Atom.{Atom}
+use Rattle.tree_types.specs.declared.tree.Atom.TheVariants as atoms
+use Rattle.tree_types.specs.declared.tree.Wrap.{Wrap}
+use Rattle.tree_types.specs.declared.tree.Wrap.TheVariants as wraps
+use Rattle.tree_types.specs.declared.tree.Tree.{Tree}
+use Rattle.tree_types.specs.declared.tree.Tree.TheVariants as trees
+use Rattle.tree_types.proofs.Seen.{atom_seen, one_seen, map_seen, tuple_seen, struct_seen, enum_seen}
 use Rattle.default_defs.specs.Supplied.{stated_in, stated_in_contents, stated_in_entries, stated_in_fields, stated_in_variants}
 use Rattle.default_reading.specs.Counts.{stated_in_cases}
 use Rattle.default_reading.specs.Seen.{Part, Variant, content, entry_of, front_tree, places_in, rest_tree, variants_in}

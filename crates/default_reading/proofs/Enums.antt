@@ -9,7 +9,7 @@ use Rattle.entry_defs.specs.Entry as entry
 use Rattle.entry_defs.specs.Entry.{VariantEntry, Contents, unit_contents, newtype_contents, tuple_contents, struct_contents, no_rest, no_fields, fields_of, rest_of, enum_shape, variants_of}
 use Rattle.entry_defs.specs.Layer.{contents_entry, is_unit_named, tagged_variant, variant_named, variant_of_text}
 use Rattle.naming_defs.specs.Names.{name_by}
-use Rattle.entry_trees.specs.View.{label_view}
+use Rattle.tree_types.specs.View.{label_view}
 use Rattle.default_defs.specs.Found.{Found, refused, ended, if_so, told, both, or_next}
 use Rattle.default_defs.specs.Layer.{Reader, adjacent_read, beside_content, beside_tag, contents_read, external_read, first_read, internal_read, same_read}
 use Rattle.default_defs.specs.Supplied.{follows, parts_of}

@@ -6,14 +6,14 @@ use Rattle.schema_defs.specs.Texts.{Relations}
 use Rattle.entry_defs.specs.Entry as entry
 use Rattle.entry_defs.specs.Entry.{Target, Entry, boolean_entry, integer_entry, text_entry, native_entry, any_entry, unit_entry, option_entry, vec_entry, set_entry, map_entry, tuple_entry, array_entry, reference}
 use Rattle.entry_defs.specs.Table.{Table, allowed, target_item}
-use Rattle.entry_trees.specs.declared.tree.Tree.{Tree}
-use Rattle.entry_trees.specs.declared.tree.TreeTable.{TreeTable}
-use Rattle.entry_trees.specs.View.{item_in, table_view, tree_view}
+use Rattle.tree_types.specs.declared.tree.Tree.{Tree}
+use Rattle.tree_types.specs.declared.tree.TreeTable.{TreeTable}
+use Rattle.tree_types.specs.View.{item_in, table_view, tree_view}
 use Rattle.default_levels.proofs.Stays.{StaysAs, stays}
 use Rattle.default_defs.specs.Found.{Found, refused, ended, endless, both, given}
 use Rattle.default_defs.specs.Layer.{shape_read}
 use Rattle.default_defs.specs.Supplied.{follows, item_read, parts_of, read_inside, stated_in, stated_in_targets, supplied}
-use Rattle.scalar_takes.proofs.Fuel.{as_many, enough}
+use Rattle.listed_reading.proofs.Fuel.{as_many, enough}
 use Rattle.default_reading.specs.Steps.{Setting, setting, missed, comes, comes_in, supplies}
 use Rattle.default_reading.proofs.Joined.{both_alone}
 

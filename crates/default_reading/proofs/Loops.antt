@@ -3,7 +3,7 @@ use Rattle.std.proofs.Common.{◌≡◌, ℕ, zero, suc, ◌+◌, ◌<◌, List,
 use Rattle.json_value.specs.Value.{Value, Items, item, Members, member}
 use Rattle.schema_defs.specs.Texts.{Relations}
 use Rattle.entry_defs.specs.Entry.{Entry, FieldEntry, Rest, entries_of}
-use Rattle.entry_trees.specs.declared.tree.Tree.{Tree}
+use Rattle.tree_types.specs.declared.tree.Tree.{Tree}
 use Rattle.default_defs.specs.Found.{Found, ended, both}
 use Rattle.default_reading.specs.Seen.{Part, entry_of, first_tree, listed, or_else, places_in}
 use Rattle.default_reading.specs.Steps.{Setting, comes, given_at, is_other, places_come, field_comes, fields_come, rest_comes, others_come}

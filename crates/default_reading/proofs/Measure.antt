@@ -1,9 +1,9 @@
 -- The work that is left: defaults that may still be read inside one another, the size of the value, references that may still be followed, and what the tree holds.
 use Rattle.std.proofs.Common.{◌≡◌, ℕ, ◌≤◌, List, [], ◌∷◌, length, inl, inr, ap, arith}
-use Rattle.entry_trees.specs.declared.tree.Target.{Target}
-use Rattle.entry_trees.specs.declared.tree.Tree.{Tree}
-use Rattle.entry_trees.specs.declared.tree.TreeTable.{TreeTable}
-use Rattle.scalar_takes.specs.Targets.{Among}
+use Rattle.tree_types.specs.declared.tree.Target.{Target}
+use Rattle.tree_types.specs.declared.tree.Tree.{Tree}
+use Rattle.tree_types.specs.declared.tree.TreeTable.{TreeTable}
+use Rattle.listed_reading.specs.Targets.{Among}
 use Rattle.default_reading.proofs.Order.{most, most-first, most-second, pack}
 use Rattle.default_reading.proofs.Weights.{tree_weight, targets_weight}
 

@@ -6,19 +6,19 @@ use Rattle.schema_defs.specs.Texts.{Relations}
 use Rattle.entry_defs.specs.Entry as entry
 use Rattle.entry_defs.specs.Entry.{Target, the_root, definition, Entry, any_entry, reference, map_entry, tuple_entry, struct_shape, enum_shape, newtype_shape, FieldEntry, Fields, next_field, fields_of, rest_of}
 use Rattle.entry_defs.specs.Table.{Table, same_target}
-use Rattle.row_types.specs.declared.row.TagRow.{TagRow}
-use Rattle.row_types.specs.View.{state_view, tag_view}
-use Rattle.entry_trees.specs.View.{label_view, atom_view, wrapped, rest_fields, fields_view, parts_of, tree_view}
-use Rattle.entry_trees.specs.declared.tree.Label.{Label}
-use Rattle.entry_trees.specs.declared.tree.Atom.{Atom}
-use Rattle.entry_trees.specs.declared.tree.Atom.TheVariants as atoms
-use Rattle.entry_trees.specs.declared.tree.Wrap.{Wrap}
-use Rattle.entry_trees.specs.declared.tree.Tree.{Tree}
-use Rattle.entry_trees.specs.declared.tree.Tree.TheVariants as trees
-use Rattle.entry_trees.proofs.Seen.{atom_seen, one_seen, map_seen, tuple_seen, struct_seen, enum_seen}
+use Rattle.row_findings.specs.declared.row.TagRow.{TagRow}
+use Rattle.row_findings.specs.View.{state_view, tag_view}
+use Rattle.tree_types.specs.View.{label_view, atom_view, wrapped, rest_fields, fields_view, parts_of, tree_view}
+use Rattle.tree_types.specs.declared.tree.Label.{Label}
+use Rattle.tree_types.specs.declared.tree.Atom.{Atom}
+use Rattle.tree_types.specs.declared.tree.Atom.TheVariants as atoms
+use Rattle.tree_types.specs.declared.tree.Wrap.{Wrap}
+use Rattle.tree_types.specs.declared.tree.Tree.{Tree}
+use Rattle.tree_types.specs.declared.tree.Tree.TheVariants as trees
+use Rattle.tree_types.proofs.Seen.{atom_seen, one_seen, map_seen, tuple_seen, struct_seen, enum_seen}
 use Rattle.entry_defs.specs.Layer.{shape_takes}
 use Rattle.entry_defs.specs.Takes.{follows, item_takes, parts_of as parts_taken}
-use Rattle.scalar_takes.specs.Followed.{Followed, takes_in}
+use Rattle.listed_reading.specs.Followed.{Followed, takes_in}
 use Rattle.model_defs.specs.Layer.{Parts, no_parts, list_parts, object_parts}
 use Rattle.default_defs.specs.Found.{Found, told}
 use Rattle.default_defs.specs.Layer.{Reader, struct_read}

@@ -8,8 +8,8 @@ use Rattle.json_value.specs.View.{items_of}
 use Rattle.schema_types.specs.View.{kept_view}
 use Rattle.entry_defs.specs.Entry.{FieldEntry, entries_of, next_entry, next_field}
 use Rattle.entry_defs.specs.Layer.{is_field}
-use Rattle.entry_trees.specs.View.{label_view}
-use Rattle.entry_trees.specs.declared.tree.Tree.{Tree}
+use Rattle.tree_types.specs.View.{label_view}
+use Rattle.tree_types.specs.declared.tree.Tree.{Tree}
 use Rattle.default_reading.specs.Seen.{Part, entry_of, first_tree, fields_in, listed, or_else, places_in, state_in}
 
 -- ---- items

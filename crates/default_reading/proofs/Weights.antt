@@ -3,18 +3,18 @@ use Rattle.std.proofs.Common.{◌≡◌, ◌<◌, ◌≤◌, ◌+◌, ℕ, zero,
 use Rattle.json_value.specs.Value as value
 use Rattle.json_value.specs.Value.{Value, null, number, fraction, text, list, object, Members, member_at, value_size}
 use Rattle.entry_defs.specs.Entry.{State, required, optional, stated}
-use Rattle.row_types.specs.View.{state_view}
-use Rattle.row_types.specs.declared.row.TagRow.{TagRow}
-use Rattle.entry_trees.specs.declared.tree.Target.{Target}
-use Rattle.entry_trees.specs.declared.tree.Atom.{Atom}
-use Rattle.entry_trees.specs.declared.tree.Label.{Label}
-use Rattle.entry_trees.specs.declared.tree.Wrap.{Wrap}
-use Rattle.entry_trees.specs.declared.tree.FieldHead.{FieldHead}
-use Rattle.entry_trees.specs.declared.tree.VariantHead.{VariantHead}
-use Rattle.entry_trees.specs.declared.tree.Tree.{Tree, the_lemmas, fold-Tree, fold-roll-Tree}
-use Rattle.entry_trees.specs.declared.tree.Tree.TheOpen.{Tree-F}
-use Rattle.entry_trees.specs.declared.tree.Tree.TheShapes.{former-Tree-Enum-3-at-6}
-use Rattle.entry_trees.specs.declared.tree.Tree.TheVariants as trees
+use Rattle.row_findings.specs.View.{state_view}
+use Rattle.row_findings.specs.declared.row.TagRow.{TagRow}
+use Rattle.tree_types.specs.declared.tree.Target.{Target}
+use Rattle.tree_types.specs.declared.tree.Atom.{Atom}
+use Rattle.tree_types.specs.declared.tree.Label.{Label}
+use Rattle.tree_types.specs.declared.tree.Wrap.{Wrap}
+use Rattle.tree_types.specs.declared.tree.FieldHead.{FieldHead}
+use Rattle.tree_types.specs.declared.tree.VariantHead.{VariantHead}
+use Rattle.tree_types.specs.declared.tree.Tree.{Tree, the_lemmas, fold-Tree, fold-roll-Tree}
+use Rattle.tree_types.specs.declared.tree.Tree.TheOpen.{Tree-F}
+use Rattle.tree_types.specs.declared.tree.Tree.TheShapes.{former-Tree-Enum-3-at-6}
+use Rattle.tree_types.specs.declared.tree.Tree.TheVariants as trees
 use Rattle.default_reading.specs.Seen.{Part, Variant, first_tree, front_tree, or_else, rest_tree, case_named, case_of_text, tagged_case}
 
 -- ---- weights

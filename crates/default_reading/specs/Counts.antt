@@ -1,7 +1,7 @@
 -- How many stated defaults stand in parts and in variants.
 use Rattle.std.specs.Prelude.{ℕ, ◌+◌, List, [], ◌∷◌, Some, None}
-use Rattle.row_types.specs.View.{state_view}
-use Rattle.entry_trees.specs.View.{tree_view}
+use Rattle.row_findings.specs.View.{state_view}
+use Rattle.tree_types.specs.View.{tree_view}
 use Rattle.default_defs.specs.Supplied.{stated_by, stated_in, stated_in_contents}
 use Rattle.default_reading.specs.Seen.{Part, Variant, content}
 

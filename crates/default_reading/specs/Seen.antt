@@ -7,12 +7,12 @@ use Rattle.json_value.specs.Value.{Value, Members, member_at, text}
 use Rattle.model_defs.specs.Model.{TagModel}
 use Rattle.entry_defs.specs.Entry.{State, required, Entry, any_entry, Entries, Fields, no_fields, rest_field, Variants, Contents, FieldEntry, fields_of}
 use Rattle.entry_defs.specs.Layer.{is_unit}
-use Rattle.row_types.specs.View.{state_view}
-use Rattle.entry_trees.specs.View.{cases_of, contents_view, fields_view, parts_of, places_view, tree_view, variants_view}
-use Rattle.entry_trees.specs.declared.tree.FieldHead.{FieldHead}
-use Rattle.entry_trees.specs.declared.tree.Label.{Label}
-use Rattle.entry_trees.specs.declared.tree.Tree.{Tree}
-use Rattle.entry_trees.specs.declared.tree.VariantHead.{VariantHead}
+use Rattle.row_findings.specs.View.{state_view}
+use Rattle.tree_types.specs.View.{cases_of, contents_view, fields_view, parts_of, places_view, tree_view, variants_view}
+use Rattle.tree_types.specs.declared.tree.FieldHead.{FieldHead}
+use Rattle.tree_types.specs.declared.tree.Label.{Label}
+use Rattle.tree_types.specs.declared.tree.Tree.{Tree}
+use Rattle.tree_types.specs.declared.tree.VariantHead.{VariantHead}
 use Rattle.default_defs.specs.Found as defs
 use Rattle.default_reading.specs.declared.found.Found.{Found}
 use Rattle.default_reading.specs.declared.found.Found.TheVariants as found

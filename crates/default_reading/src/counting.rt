@@ -1,16 +1,16 @@
 //! How many stated defaults stand in trees.
 ghost use Rattle.std.specs.Prelude.{◌≡◌, ◌+◌, IfErr, IfOk, option_map};
 ghost use Rattle.entry_defs.specs.Entry.{no_fields};
-ghost use Rattle.row_types.specs.View.{state_view};
-ghost use Rattle.entry_trees.specs.View.{contents_view, fields_view, parts_of, table_view, tree_view};
+ghost use Rattle.row_findings.specs.View.{state_view};
+ghost use Rattle.tree_types.specs.View.{contents_view, fields_view, parts_of, table_view, tree_view};
 ghost use Rattle.default_defs.specs.Supplied.{stated_by, stated_in, stated_in_contents, stated_in_entries, stated_in_fields, stated_in_targets, stated_in_variants};
 ghost use Rattle.default_reading.specs.Seen.{entry_of, fields_in, kept, places_in};
 ghost use Rattle.default_reading.specs.Counts.{stated_in_part, stated_in_cases};
 
 use crate::parts::{front_part, rest_tree};
-use entry_trees::{ContentKind, FieldHead, Tree, TreeTable, VariantHead};
-use row_types::FieldState;
+use row_findings::FieldState;
 use schema_tree::TextFault;
+use tree_types::{ContentKind, FieldHead, Tree, TreeTable, VariantHead};
 
 /// The sum, where it is held.
 pub fn sum(one: usize, other: usize) -> Result<usize, TextFault>

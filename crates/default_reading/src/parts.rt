@@ -4,16 +4,16 @@ ghost use Rattle.serde_json.specs.View.{members_view};
 ghost use Rattle.json_value.specs.View.{members_of};
 ghost use Rattle.schema_types.specs.View.{kept_view};
 ghost use Rattle.entry_defs.specs.Layer.{is_field as is_field_of, is_unit as is_unit_of};
-ghost use Rattle.entry_trees.specs.View.{Parts, contents_view};
-ghost use Rattle.entry_trees.specs.declared.tree.Tree.{Tree};
+ghost use Rattle.tree_types.specs.View.{Parts, contents_view};
+ghost use Rattle.tree_types.specs.declared.tree.Tree.{Tree};
 ghost use Rattle.default_reading.specs.Seen.{case_named, case_of_text, first_tree, front_tree, is_unit_case, listed, or_else, rest_tree as rest_tree_of, tagged_case};
 ghost use Rattle.default_reading.specs.Steps.{has_others as has_others_of, is_other as is_other_of};
 
 use crate::members::{is_passed, member};
 use crate::owners::text_of;
-use entry_trees::{ContentKind, FieldHead, Label, Tree, VariantHead};
 use serde_json::Value;
 use serde_json::value::Map;
+use tree_types::{ContentKind, FieldHead, Label, Tree, VariantHead};
 
 /// The tree of what keeps the members that no field names.
 pub fn rest_tree<'t, 'd>(rest: &'t Option<(Label<'d>, Box<Tree<'d>>)>) -> Option<&'t Tree<'d>>

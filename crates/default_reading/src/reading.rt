@@ -8,8 +8,8 @@ ghost use Rattle.schema_types.specs.View.{kept_view};
 ghost use Rattle.model_defs.specs.Model.{adjacent_tag, external_tag, internal_tag};
 ghost use Rattle.entry_defs.specs.Entry.{array_entry, entries_of, enum_shape, fields_of, item, map_entry, newtype_shape, option_entry, reference, rest_of, struct_shape, tuple_entry, vec_entry};
 ghost use Rattle.entry_defs.specs.Layer.{contents_entry};
-ghost use Rattle.row_types.specs.View.{state_view, tag_view};
-ghost use Rattle.entry_trees.specs.View.{atom_view, contents_view, first_part, parts_of, rule_view, table_view, target_view, tree_view, wrapped};
+ghost use Rattle.row_findings.specs.View.{state_view, tag_view};
+ghost use Rattle.tree_types.specs.View.{atom_view, contents_view, first_part, parts_of, rule_view, table_view, target_view, tree_view, wrapped};
 ghost use Rattle.default_defs.specs.Found.{both as both_of, ended};
 ghost use Rattle.default_defs.specs.Layer.{left_out as left_out_of};
 ghost use Rattle.default_reading.specs.Seen.{case_named, content as content_of, contents_in, entry_of, fields_in, found_view, listed, places_in, state_in, variants_in};
@@ -23,15 +23,15 @@ use crate::parts::{
     tree_from, variant_named,
 };
 use crate::room::{Room, deeper, further};
-use entry_trees::{
-    Atom, ContentKind, FieldHead, Target, Tree, TreeRule, TreeTable, VariantHead, Wrap,
-};
-use row_types::{FieldState, TagRow};
+use listed_reading::{atom_takes, given_rule_holds, led_to, target_of};
+use row_findings::{FieldState, TagRow};
 use scalar_rows::is_null;
-use scalar_takes::{atom_takes, given_rule_holds, led_to, target_of};
 use schema_tree::{TextFault, Texts};
 use serde_json::Value;
 use serde_json::value::Map;
+use tree_types::{
+    Atom, ContentKind, FieldHead, Target, Tree, TreeRule, TreeTable, VariantHead, Wrap,
+};
 
 // Where so many references may be followed at the value, or more.
 #[cycle(reading)]

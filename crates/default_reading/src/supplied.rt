@@ -2,7 +2,7 @@
 ghost use Rattle.std.specs.Prelude.{◌≡◌, ◌≤◌, IfOk, IsErrOf};
 ghost use Rattle.run_io.specs.Bytes.{Rises};
 ghost use Rattle.schema_types.specs.View.{kept_view};
-ghost use Rattle.entry_trees.specs.View.{table_view, tree_view};
+ghost use Rattle.tree_types.specs.View.{table_view, tree_view};
 ghost use Rattle.default_defs.specs.Supplied.{supplied};
 ghost use Rattle.default_reading.specs.Seen.{found_view};
 
@@ -10,9 +10,9 @@ use crate::counting::{count_targets, count_tree, sum};
 use crate::found::Found;
 use crate::reading::also;
 use crate::room::{MOST_LEVELS, Room};
-use entry_trees::{Tree, TreeTable};
 use schema_tree::{TextFault, Texts};
 use serde_json::Value;
+use tree_types::{Tree, TreeTable};
 
 // By as many levels as there are stated defaults, and one more.
 fn found_by_count<'d, 'k, T: Texts>(

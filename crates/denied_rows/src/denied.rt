@@ -7,10 +7,10 @@ ghost use Rattle.convert_defs.specs.Standing.{words_or, less_enum as less_enum_o
 ghost use Rattle.schema_defs.specs.Schema.{boolean, object};
 ghost use Rattle.convert_defs.specs.Table.{not_finding as not_finding_of, deny as deny_of, denied as denied_of, type_of_listed as type_of_listed_of, not_denied as not_denied_of, no_others as no_others_of, has_one_type as has_one_type_of, under_not as under_not_of};
 ghost use Rattle.denied_rows.specs.Denied.{is_some_listed, type_of_values as type_of_values_in, not_listed as not_listed_of};
-ghost use Rattle.row_types.specs.Given.{plain_view, same_view, lists_view, named_view, keywords_view, given_values_view};
-ghost use Rattle.row_types.specs.View.{part_view, cause_view, finding_view};
+ghost use Rattle.row_findings.specs.Given.{plain_view, same_view, lists_view, named_view, keywords_view, given_values_view};
+ghost use Rattle.row_findings.specs.View.{part_view, cause_view, finding_view};
 
-use row_types::{
+use row_findings::{
     Cause, Finding, GivenValues, Keyword, Keywords, Leaf, NoteKind, Part, PartKind, Row, RowRule,
     Source, Steps, Way, has_one_type, is_without_same, keywords_of, less_enum, made, no_keyword,
     no_others, noted, of_type, plainly, refused, with_note,

@@ -1,11 +1,11 @@
 //! Two readings of one item answer alike and tell alike, whatever was told before.
 ghost use Rattle.std.specs.Prelude.{◌≡◌, IfOk, OnOk, option_map};
 ghost use Rattle.attr_parts.specs.Diagnostics.{diagnostics};
-ghost use Rattle.attr_readers.specs.Alike.{TellsAlike};
-ghost use Rattle.container_readers.specs.Views.{container_view};
+ghost use Rattle.derive_attr.specs.Alike.{TellsAlike};
+ghost use Rattle.derive_ast.specs.Views.{container_view};
 
+use crate::container::Container;
 use attr_parts::{Ctxt, Derive, Renamer};
-use container_readers::Container;
 use std::alloc::{AllocError, Global};
 use syntax_trees::DeriveInput;
 use token_trees::Ident;

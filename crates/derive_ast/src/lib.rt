@@ -1,7 +1,17 @@
-//! Containers read from items, their fields, and the ten checks.
+//! Containers read from items, and their ten checks.
 #![tactic(auto)]
 
+mod all_fields;
+mod checks;
+mod container;
+mod fields;
+mod getters;
+mod items;
 mod laws;
+mod variants;
 
-pub use container_readers::{AllFields, Container, Data, Field, Style, Variant, check};
+pub use all_fields::AllFields;
+pub use checks::check;
+pub use container::{Container, Data, Field, Variant};
+pub use container_defs::Style;
 pub use laws::containers_read_alike;

@@ -1,6 +1,15 @@
-//! The reader of serde's attributes: diagnostics and the context that they are told to, names and the rules that change them, and what
-//! attributes say of containers, variants and fields.
+//! The reader of serde's attributes: what is said of containers, variants and fields, and what is wrong with that, with the diagnostics and their context, names
+//! and the rules that change them.
 #![tactic(auto)]
+
+mod container;
+mod field;
+mod laws;
+mod name;
+mod names;
+mod rename;
+mod tag;
+mod variant;
 
 pub use attr_parts::{
     ALIAS, BORROW, BOUND, CONTENT, CRATE, Ctxt, DEFAULT, DENY_UNKNOWN_FIELDS, DESERIALIZE,
@@ -12,4 +21,11 @@ pub use attr_parts::{
     collect_lifetimes, is_cow, is_implicitly_borrowed, place_of_field, place_of_item,
     place_of_path, place_of_type, place_of_variant, ungroup,
 };
-pub use attr_readers::attr;
+pub use laws::{containers_read_alike, fields_read_alike, variants_read_alike};
+
+/// The three readers, under the names that serde's own have.
+pub mod attr {
+    pub use crate::container::Container;
+    pub use crate::field::Field;
+    pub use crate::variant::Variant;
+}

@@ -6,7 +6,7 @@ ghost use Rattle.schema_tree.specs.Conversions.{conversions_view};
 ghost use Rattle.attr_parts.specs.Diagnostics.{diagnostics};
 ghost use Rattle.attr_defs.specs.Texts.{lexed};
 ghost use Rattle.container_defs.specs.Reader.{item_models};
-ghost use Rattle.container_readers.specs.Views.{container_view};
+ghost use Rattle.derive_ast.specs.Views.{container_view};
 ghost use Rattle.derive_model.specs.Items.{private as private_name, read_of, all_told, first_outside};
 ghost use Rattle.derive_model.specs.ModuleView.{items_in, models_in, conversions_in, IsForm, IsTold, IsWhy};
 
@@ -16,7 +16,7 @@ use crate::module::Module;
 use crate::outside::first_outside;
 use crate::read::{private, read_all};
 use attr_parts::{Ctxt, Derive, Renamer};
-use container_readers::Container;
+use derive_ast::Container;
 use item_names::ItemNames;
 use schema_tree::Conversions;
 use std::alloc::Global;

@@ -2,11 +2,11 @@
 ghost use Rattle.std.specs.Prelude.{◌≡◌, ◌++◌, [], map, option_map, IfOk, OnOk};
 ghost use Rattle.std.specs.List.{filter_map, cons_option};
 ghost use Rattle.container_defs.specs.Reader.{reader_model};
-ghost use Rattle.container_readers.specs.Views.{container_view};
+ghost use Rattle.derive_ast.specs.Views.{container_view};
 ghost use Rattle.value_models.specs.ContainerView.{containers_view};
 ghost use Rattle.value_models.specs.ContainersView.{containers_in};
 
-use container_readers::Container;
+use derive_ast::Container;
 use item_models::model_of_container;
 use std::alloc::{AllocError, Global};
 use value_models::Containers;

@@ -3,12 +3,12 @@ ghost use Rattle.std.specs.Prelude.{◌≡◌, map, option_map, IfOk};
 ghost use Rattle.syntax_trees.specs.Item.{item_view};
 ghost use Rattle.schema_tree.specs.Conversions.{conversions_view};
 ghost use Rattle.container_defs.specs.Forms.{names_of, leaves_forms};
-ghost use Rattle.container_readers.specs.Views.{container_view};
+ghost use Rattle.derive_ast.specs.Views.{container_view};
 ghost use Rattle.derive_model.specs.Items.{first_from};
 
-use container_readers::Container;
+use derive_ast::Container;
+use item_causes::is_outside;
 use item_names::ItemNames;
-use item_rules::is_outside;
 use schema_tree::Conversions;
 use std::alloc::{AllocError, Global};
 

@@ -3,11 +3,11 @@ ghost use Rattle.std.specs.Prelude.{◌≡◌, ◌++◌, map, option_map, IfOk, 
 ghost use Rattle.token_trees.specs.View.{name_view};
 ghost use Rattle.syntax_trees.specs.Item.{item_view};
 ghost use Rattle.attr_parts.specs.Diagnostics.{diagnostics};
-ghost use Rattle.container_readers.specs.Views.{container_view};
+ghost use Rattle.derive_ast.specs.Views.{container_view};
 ghost use Rattle.derive_model.specs.Items.{private as private_name, read_of, told_of, all_told};
 
 use attr_parts::{Ctxt, Derive, Renamer};
-use container_readers::Container;
+use derive_ast::Container;
 use std::alloc::{AllocError, Global};
 use syntax_trees::DeriveInput;
 use token_trees::{Ident, Span};

@@ -7,15 +7,15 @@ ghost use Rattle.convert_defs.specs.Row.{noted as noted_as, leaf_row};
 ghost use Rattle.convert_defs.specs.IntegerRow.{integer_of as integer_in, integer_notes, numbers_or_none, format_range, is_multiple as is_multiple_of, has_multiple, least_of as least_in, greatest_of as greatest_in, in_i64 as in_i64_of, bounded as bounded_of, format_or_i64 as format_or_i64_of, lies_in as lies_in_of};
 ghost use Rattle.entry_types.specs.View.{integer_view};
 ghost use Rattle.schema_types.specs.View.{numbers_view};
-ghost use Rattle.row_types.specs.Given.{plain_view};
-ghost use Rattle.row_types.specs.View.{finding_view};
+ghost use Rattle.row_findings.specs.Given.{plain_view};
+ghost use Rattle.row_findings.specs.View.{finding_view};
 ghost use Rattle.integer_rows.specs.Bounds.{ends_view, chosen_by, admitted_by, is_widened as is_widened_by, is_narrowed as is_narrowed_by, IsLeast, IsGreatest};
 
 use crate::bounds::{greatest_of, least_of, lower, upper};
 use crate::choice::chosen;
 use crate::kinds::{Ends, ends_of, format_name};
 use entry_types::IntName;
-use row_types::{Finding, Keywords, Leaf, NoteKind, Row, Way, noted, with_note};
+use row_findings::{Finding, Keywords, Leaf, NoteKind, Row, Way, noted, with_note};
 use schema_types::NumberValidation;
 use std::alloc::{AllocError, Global};
 

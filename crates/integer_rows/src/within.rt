@@ -2,12 +2,12 @@
 ghost use Rattle.std.specs.Prelude.{◌≡◌, option_map};
 ghost use Rattle.convert_defs.specs.IntegerRow.{greatest_of as greatest_in, least_of as least_in, or_else as or_else_of};
 ghost use Rattle.convert_defs.specs.Values.{is_bounded as is_bounded_of, is_from as is_from_of, is_up_to as is_up_to_of};
-ghost use Rattle.row_types.specs.Given.{plain_view};
+ghost use Rattle.row_findings.specs.Given.{plain_view};
 ghost use Rattle.schema_types.specs.View.{numbers_view};
 
 use crate::integer::{format_in, numbers_in};
 use crate::kinds::{greatest_end, least_end};
-use row_types::Keywords;
+use row_findings::Keywords;
 use schema_types::NumberValidation;
 
 // Whether the number is none below the least one, or the end where none is given.

@@ -4,12 +4,12 @@ ghost use Rattle.std.specs.List.{list_any};
 ghost use Rattle.std.specs.BTreeSet.{keys};
 ghost use Rattle.attr_parts.specs.Names.{attr_name};
 ghost use Rattle.container_defs.specs.Forms.{field_lists, written_name, repeats_name, rests, is_unread, has_unread, is_empty};
-ghost use Rattle.container_readers.specs.Views.{field_view, variant_view, data_view};
+ghost use Rattle.derive_ast.specs.Views.{field_view, variant_view, data_view};
 ghost use Rattle.item_forms.specs.Counts.{count_of, one_more};
 ghost use Rattle.item_forms.specs.ListTests.{list_test};
 
 use attr_parts::Name;
-use container_readers::{Data, Field, Variant};
+use derive_ast::{Data, Field, Variant};
 use std::alloc::{AllocError, Global};
 use std::collections::BTreeSet;
 

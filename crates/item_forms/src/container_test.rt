@@ -5,13 +5,13 @@ ghost use Rattle.syntax_trees.specs.Item.{item_view};
 ghost use Rattle.attr_parts.specs.Values.{tag_view};
 ghost use Rattle.container_defs.specs.Forms.{names_of, is_generic, is_remote, has_from, has_into, has_container_default, is_external, is_tagged_struct, is_an_identifier, odd_rests, rests, is_empty, has_odd_flatten, lacks_row, has_one_form, stands_beside, has_no_row, is_transparent_with_names};
 ghost use Rattle.container_defs.specs.Checks.{is_struct, is_one};
-ghost use Rattle.container_readers.specs.Views.{field_view, variant_view, data_view, container_view};
+ghost use Rattle.derive_ast.specs.Views.{field_view, variant_view, data_view, container_view};
 ghost use Rattle.item_forms.specs.ContainerTests.{container_test};
 
 use crate::beside::{Count, count_rests, has_rest};
 use attr_parts::TagType;
 use container_defs::Style;
-use container_readers::{Container, Data, Field, Variant};
+use derive_ast::{Container, Data, Field, Variant};
 use item_names::ItemNames;
 
 /// What is asked of a container itself.

@@ -5,13 +5,13 @@ ghost use Rattle.syntax_trees.specs.View.{member_view};
 ghost use Rattle.attr_parts.specs.Values.{lacks_default};
 ghost use Rattle.container_defs.specs.Reader.{has_name, reads_some, reads_whole};
 ghost use Rattle.container_defs.specs.Forms.{names_of, holds, fails, is_own, empties, field_type, is_known_reader, is_known_condition, has_odd_emptiness, has_extras, has_odd_some, has_odd_whole, is_odd_rest};
-ghost use Rattle.container_readers.specs.Views.{field_view};
+ghost use Rattle.derive_ast.specs.Views.{field_view};
 ghost use Rattle.item_forms.specs.FieldTests.{field_test};
 
 use crate::condition::{empties, is_known_condition, is_known_reader};
 use crate::type_form::{is_option, is_text_map};
 use attr_parts::Default;
-use container_readers::Field;
+use derive_ast::Field;
 use item_models::{reads_some, reads_whole};
 use item_names::ItemNames;
 use syntax_trees::Member;

@@ -4,11 +4,11 @@ ghost use Rattle.std.specs.List.{list_any, flat_map};
 ghost use Rattle.syntax_trees.specs.Item.{item_view};
 ghost use Rattle.container_defs.specs.Container.{all_fields};
 ghost use Rattle.container_defs.specs.Forms.{names_of};
-ghost use Rattle.container_readers.specs.Views.{field_view, variant_view, data_view};
+ghost use Rattle.derive_ast.specs.Views.{field_view, variant_view, data_view};
 ghost use Rattle.item_forms.specs.FieldTests.{field_test};
 
 use crate::field_test::{FieldTest, asked};
-use container_readers::{Data, Field, Variant};
+use derive_ast::{Data, Field, Variant};
 use item_names::ItemNames;
 
 /// Whether one of the fields answers yes.

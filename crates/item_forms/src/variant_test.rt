@@ -2,10 +2,10 @@
 ghost use Rattle.std.specs.Prelude.{◌≡◌, ◌||◌, is_some, map};
 ghost use Rattle.std.specs.List.{list_any};
 ghost use Rattle.container_defs.specs.Checks.{variants_in};
-ghost use Rattle.container_readers.specs.Views.{variant_view, data_view};
+ghost use Rattle.derive_ast.specs.Views.{variant_view, data_view};
 ghost use Rattle.item_forms.specs.VariantTests.{variant_test};
 
-use container_readers::{Data, Variant};
+use derive_ast::{Data, Variant};
 
 /// What is asked of each variant.
 #[derive(Clone, Copy)]

@@ -2,13 +2,13 @@
 ghost use Rattle.std.specs.Prelude.{◌≡◌, is_some, IfOk};
 ghost use Rattle.attr_parts.specs.Values as attrs;
 ghost use Rattle.container_defs.specs.Reader.{tag_model, body_model, reader_model};
-ghost use Rattle.container_readers.specs.Views.{data_view, container_view as read_view};
+ghost use Rattle.derive_ast.specs.Views.{data_view, container_view as read_view};
 ghost use Rattle.value_models.specs.ContainerView.{tag_view, body_view, container_view};
 
 use crate::field_model::{fields_model, style_of};
 use crate::variant_model::variants_model;
 use attr_parts::TagType;
-use container_readers::{Container as ReadContainer, Data};
+use derive_ast::{Container as ReadContainer, Data};
 use std::alloc::{AllocError, Global};
 use value_models::{Body, Container, Tag};
 

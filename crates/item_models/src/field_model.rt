@@ -4,14 +4,14 @@ ghost use Rattle.std.specs.BTreeSet.{keys};
 ghost use Rattle.syntax_trees.specs.View.{member_view};
 ghost use Rattle.attr_parts.specs.Names.{attr_name, multi_name};
 ghost use Rattle.container_defs.specs.Reader.{has_name, read_names, field_model, style_model};
-ghost use Rattle.container_readers.specs.Views.{field_view as read_view};
+ghost use Rattle.derive_ast.specs.Views.{field_view as read_view};
 ghost use Rattle.value_models.specs.FieldView.{field_view, fields_view, style_view};
 ghost use Rattle.value_models.specs.VariantView.{fields_in};
 
 use crate::default_model::default_of;
 use crate::known::helper_of;
 use attr_parts::{MultiName, Name};
-use container_readers::Field as ReadField;
+use derive_ast::Field as ReadField;
 use std::alloc::{AllocError, Global};
 use std::collections::BTreeSet;
 use syntax_trees::Member;

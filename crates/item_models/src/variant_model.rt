@@ -1,12 +1,12 @@
 //! Variants as the reader takes them.
 ghost use Rattle.std.specs.Prelude.{◌≡◌, map, IfOk};
 ghost use Rattle.container_defs.specs.Reader.{variant_model};
-ghost use Rattle.container_readers.specs.Views.{variant_view as read_view};
+ghost use Rattle.derive_ast.specs.Views.{variant_view as read_view};
 ghost use Rattle.value_models.specs.VariantView.{variant_view, variants_view};
 ghost use Rattle.value_models.specs.ContainerView.{variants_in};
 
 use crate::field_model::{fields_model, names_read, style_of, written_name};
-use container_readers::Variant as ReadVariant;
+use derive_ast::Variant as ReadVariant;
 use std::alloc::{AllocError, Global};
 use value_models::{Variant, Variants};
 

@@ -7,12 +7,12 @@ ghost use Rattle.convert_defs.specs.Row.{add_notes};
 ghost use Rattle.convert_defs.specs.Standing.{is_untyped as is_untyped_of};
 ghost use Rattle.convert_defs.specs.Owners.{array_finding as array_finding_of, object_finding as object_finding_of};
 ghost use Rattle.convert_defs.specs.Table.{untyped};
-ghost use Rattle.row_types.specs.Given.{plain_view, same_view, lists_view, named_view};
+ghost use Rattle.row_findings.specs.Given.{plain_view, same_view, lists_view, named_view};
 ghost use Rattle.type_rows.specs.Line.{held_view, line};
 
 use array_rows::array_finding;
 use object_rows::object_finding;
-use row_types::{
+use row_findings::{
     Finding, Keywords, NoteKind, Way, has_type, is_bare, is_untyped, is_without_lists,
     is_without_named, with_note,
 };

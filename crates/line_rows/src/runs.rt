@@ -4,14 +4,14 @@ ghost use Rattle.schema_defs.specs.Texts.{Relations};
 ghost use Rattle.schema_tree.specs.Document.{view as document_seen};
 ghost use Rattle.schema_defs.specs.Schema.{Document as DocumentOf};
 ghost use Rattle.type_rows.specs.Line.{first_found, held_view};
-ghost use Rattle.row_types.specs.Given.{plain_view, same_view, lists_view, named_view};
+ghost use Rattle.row_findings.specs.Given.{plain_view, same_view, lists_view, named_view};
 ghost use Rattle.line_rows.specs.Runs.{first_lines, second_lines, third_lines, last_lines};
 
 use crate::owners::{array_line, object_line, untyped_array_line, untyped_object_line};
 use crate::scalars::{
     boolean_line, constant_text_line, enumerated_line, integer_line, text_line, untyped_text_line,
 };
-use row_types::{Finding, Keywords};
+use row_findings::{Finding, Keywords};
 use schema_tree::Document;
 use std::alloc::{AllocError, Global};
 use type_rows::{

@@ -10,11 +10,11 @@ ghost use Rattle.convert_defs.specs.IntegerRow.{integer_of, integer_notes};
 ghost use Rattle.convert_defs.specs.Scalars.{patterns_in, string_finding as string_finding_of, enumerated as enumerated_of, boolean_finding as boolean_finding_of, listed_alone as listed_alone_of};
 ghost use Rattle.convert_defs.specs.Standing.{less_enum as less_enum_of};
 ghost use Rattle.convert_defs.specs.Table.{untyped, listed, constant_of, constant_finding as constant_finding_of, no_others as no_others_of};
-ghost use Rattle.row_types.specs.Given.{plain_view, same_view, lists_view, named_view};
+ghost use Rattle.row_findings.specs.Given.{plain_view, same_view, lists_view, named_view};
 ghost use Rattle.type_rows.specs.Line.{held_view, line};
 
 use integer_rows::integer_finding;
-use row_types::{
+use row_findings::{
     Finding, Keywords, NoteKind, Way, has_type, is_bare, is_without_lists, is_without_named,
     is_without_same, less_enum, no_others, with_note,
 };

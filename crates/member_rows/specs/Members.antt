@@ -7,7 +7,7 @@ use Rattle.convert_defs.specs.Row.{VariantRow, Note, narrowed, widened, open_bra
 use Rattle.convert_defs.specs.Table.{has_text_keywords}
 use Rattle.convert_defs.specs.Shapes as shapes
 use Rattle.convert_defs.specs.Shapes.{case_rows}
-use Rattle.row_types.specs.View.{keyword_view}
+use Rattle.row_findings.specs.View.{keyword_view}
 use Rattle.member_rows.specs.declared.members.Member.{Member}
 
 abbrev pub member_view : Member → shapes.Member

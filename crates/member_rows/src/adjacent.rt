@@ -1,13 +1,13 @@
 //! The adjacent shape: the content of a variant stands beside its tag.
 ghost use Rattle.std.specs.Prelude.{◌≡◌, IfOk, map};
 ghost use Rattle.convert_defs.specs.Shapes.{adjacent_variant as adjacent_variant_of, body_of_field as body_of_field_of};
-ghost use Rattle.row_types.specs.View.{field_view, body_view, variant_view};
+ghost use Rattle.row_findings.specs.View.{field_view, body_view, variant_view};
 ghost use Rattle.member_rows.specs.Members.{member_view};
 
 use crate::internal::fields_beside;
 use crate::members::Member;
 use crate::tagged::tag_text;
-use row_types::{FieldRow, VariantBody, VariantRow};
+use row_findings::{FieldRow, VariantBody, VariantRow};
 use schema_types::Setting;
 use std::alloc::{AllocError, Global};
 

@@ -5,12 +5,12 @@ ghost use Rattle.enum_shapes.specs.View.{case_view};
 ghost use Rattle.schema_types.specs.View.{schema_view, schemas_view};
 ghost use Rattle.convert_defs.specs.Shapes.{schemas_of, external_members, case_body as case_body_of, case_row};
 ghost use Rattle.convert_defs.specs.Table.{is_open_shape as is_open_shape_of, open_branches, has_text_keywords as has_text_keywords_of};
-ghost use Rattle.row_types.specs.View.{note_view, way_view, kind_view, body_view, variant_view};
+ghost use Rattle.row_findings.specs.View.{note_view, way_view, kind_view, body_view, variant_view};
 ghost use Rattle.member_rows.specs.Members.{member_view, own_rows, ruled_branches};
 
 use crate::members::Member;
 use enum_shapes::{Case, external_shape, object_shape};
-use row_types::{Note, NoteKind, Part, PartKind, Source, Steps, VariantBody, VariantRow, Way};
+use row_findings::{Note, NoteKind, Part, PartKind, Source, Steps, VariantBody, VariantRow, Way};
 use schema_types::Schema;
 use std::alloc::{AllocError, Global};
 

@@ -3,14 +3,14 @@ ghost use Rattle.std.specs.Prelude.{◌≡◌, ◌++◌, [], ◌∷◌, IfOk, ma
 ghost use Rattle.schema_types.specs.View.{schema_view, properties_view};
 ghost use Rattle.convert_defs.specs.Shapes.{fields_beside as fields_beside_of, body_of_fields as body_of_fields_of, internal_variant as internal_variant_of, placed_field, less_property};
 ghost use Rattle.convert_defs.specs.Owners.{property_fields, is_empty};
-ghost use Rattle.row_types.specs.View.{field_view, body_view, variant_view};
+ghost use Rattle.row_findings.specs.View.{field_view, body_view, variant_view};
 ghost use Rattle.object_rows.specs.Parts.{field_of as field_spec};
 ghost use Rattle.member_rows.specs.Members.{member_view};
 
 use crate::members::Member;
 use crate::tagged::{members_of_schema, tag_text};
 use object_rows::{field_state, is_required, may_be_null};
-use row_types::{FieldRow, Part, PartKind, Source, Steps, VariantBody, VariantRow};
+use row_findings::{FieldRow, Part, PartKind, Source, Steps, VariantBody, VariantRow};
 use schema_types::{Schema, Setting};
 use std::alloc::{AllocError, Global};
 use std::collections::{BTreeMap, BTreeSet};

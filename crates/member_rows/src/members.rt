@@ -4,10 +4,10 @@ ghost use Rattle.schema_defs.specs.Schema.{schemas};
 ghost use Rattle.schema_types.specs.View.{schemas_view};
 ghost use Rattle.convert_defs.specs.Shapes.{members_from};
 ghost use Rattle.convert_defs.specs.Table.{member_part, lone_part as lone_part_of, only_member as only_member_of, untagged_variant as untagged_variant_of};
-ghost use Rattle.row_types.specs.View.{keyword_view, part_view, variant_view, branch_view};
+ghost use Rattle.row_findings.specs.View.{keyword_view, part_view, variant_view, branch_view};
 ghost use Rattle.member_rows.specs.Members.{member_view};
 
-use row_types::{Branch, Keyword, Part, PartKind, Source, Steps, VariantBody, VariantRow};
+use row_findings::{Branch, Keyword, Part, PartKind, Source, Steps, VariantBody, VariantRow};
 use schema_types::Schema;
 use std::alloc::{AllocError, Global};
 

@@ -6,13 +6,13 @@ ghost use Rattle.schema_types.specs.View.{kept_view, schema_view};
 ghost use Rattle.enum_defs.specs.Words.{same_type as same_type_of, without_same, without_lists, without_named};
 ghost use Rattle.convert_defs.specs.Shapes.{option_member as option_member_of, one_null as one_null_of, is_plain_null as is_plain_null_of, is_odd_null as is_odd_null_of};
 ghost use Rattle.convert_defs.specs.Table.{one_null_member};
-ghost use Rattle.row_types.specs.Given.{plain_view, same_view, lists_view, named_view, keywords_view, given_values_view, given_types_view};
+ghost use Rattle.row_findings.specs.Given.{plain_view, same_view, lists_view, named_view, keywords_view, given_values_view, given_types_view};
 ghost use Rattle.member_rows.specs.Members.{member_view, is_other};
 ghost use Rattle.schema_defs.specs.Schema.{many_types};
 
 use crate::members::Member;
 use enum_shapes::is_null_schema;
-use row_types::{
+use row_findings::{
     GivenTypes, GivenValues, Keywords, is_without_lists, is_without_named, is_without_same,
     keywords_of, same_type,
 };

@@ -11,8 +11,8 @@ ghost use Rattle.merge_branches.specs.Kept.{as_view, fate_so, fate_view, fates_f
 
 use crate::joint::joint;
 use crate::kept::{As, Fate, Kept, Left};
-use merge_alike::{roughly, wholly};
 use merge_parts::{MergeKind, MergeNote, Way, add_notes, has_way, note_if};
+use schema_sameness::{roughly, wholly};
 use schema_types::Schema;
 use std::alloc::{AllocError, Global};
 

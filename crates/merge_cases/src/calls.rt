@@ -2,7 +2,7 @@
 use crate::show::push_schema;
 use case_words::{fault_text, push_fault};
 use merge_parts::{MergeKind, Way};
-use merge_told::{Merged, PlacedNote, merge_all, subtract, try_merge_with_subschemas};
+use schema_merge::{Merged, PlacedNote, merge_all, subtract, try_merge_with_subschemas};
 use schema_tree::{Document, Fault, Schema, SchemaObject};
 use serde_json::Value;
 use std::alloc::{AllocError, Global};

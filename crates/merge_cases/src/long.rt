@@ -1,6 +1,6 @@
 //! Documents that are too long to be written out: chains of objects, which are merged in time that grows in step with their number, and definitions that lead deep.
 use crate::calls::{Call, answer};
-use merge_told::{Merged, merge_all};
+use schema_merge::{Merged, merge_all};
 use schema_tree::{Document, Fault, Schema, SchemaObject};
 use serde_json::Value;
 use std::alloc::{AllocError, Global};

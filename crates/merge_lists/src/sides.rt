@@ -11,10 +11,10 @@ ghost use Rattle.merge_lists.specs.Plans.{list_outcome, maybe_array};
 
 use crate::places::two_places;
 use crate::plan::{Around, ListPlan};
-use merge_alike::same_schemas;
 use merge_leaves::{ListSizes, two_list_sizes};
 use merge_parts::{MergeKind, MergeNote, never_unless};
 use merge_steps::{Stop, answered};
+use schema_sameness::same_schemas;
 use schema_types::{ArrayValidation, Schema};
 use std::alloc::Global;
 

@@ -13,10 +13,10 @@ use Rattle.merge_defs.specs.Arrays.{two_lists_parts}
 use Rattle.merge_defs.specs.Objects.{two_named, names_mix, unless_mixed}
 use Rattle.merge_defs.specs.Members.{refused, with_same}
 use Rattle.merge_defs.specs.Merge.{tidied, two_objects}
-use Rattle.merge_alike.specs.Parts.{plain_in, same_in, lists_in, named_in}
+use Rattle.schema_sameness.specs.Parts.{plain_in, same_in, lists_in, named_in}
 use Rattle.merge_walks.specs.Carried.{Walk}
 use Rattle.merge_walks.specs.Made.{on_made, settled}
-use Rattle.merge_carried.proofs.Objects.{object_seen}
+use Rattle.merge_walked.proofs.Objects.{object_seen}
 use Rattle.merge_steps.specs.declared.stop.Stop.{Stop}
 use Rattle.merge_steps.specs.Ends.{Goes}
 use Rattle.merge_steps.proofs.Leading.{after_after, mapped_after}

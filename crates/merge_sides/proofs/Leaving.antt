@@ -12,8 +12,8 @@ use Rattle.schema_types.specs.declared.schema.StringValidation.{StringValidation
 use Rattle.merge_defs.specs.Outcome.{Note, Outcome, and_then, where_both}
 use Rattle.merge_defs.specs.Leaves.{is_only, two_types, two_formats, two_numbers, two_texts, values_of}
 use Rattle.merge_leaves.specs.View.{values_view}
-use Rattle.merge_alike.specs.Parts.{plain_in}
-use Rattle.merge_carried.proofs.Objects.{plain_of, object_seen}
+use Rattle.schema_sameness.specs.Parts.{plain_in}
+use Rattle.merge_walked.proofs.Objects.{plain_of, object_seen}
 use Rattle.merge_steps.specs.declared.stop.Stop.{Stop}
 use Rattle.merge_steps.specs.Ends.{Ends, Goes, Leads}
 use Rattle.merge_steps.proofs.Leading.{leads_by, leads_on, led_goes}

@@ -15,7 +15,7 @@ use Rattle.merge_defs.specs.Merge.{tidied, tidied_values}
 use Rattle.merge_defs.specs.Objects.{no_plain}
 use Rattle.merge_leaves.specs.View.{values_view}
 use Rattle.merge_sides.specs.Met.{listing}
-use Rattle.merge_carried.proofs.Objects.{plain_of, object_seen}
+use Rattle.merge_walked.proofs.Objects.{plain_of, object_seen}
 
 same_mapped : (o : Option Subschemas) → same_of (former-SchemaObject-subschemas.map Subschemas Same subschemas_view o) ≡ same_of (option_map subschemas_view o)
 same_mapped None = refl

@@ -11,8 +11,8 @@ use Rattle.merge_defs.specs.Merge.{stands_for_target, target_merged, reference_t
 use Rattle.merge_walks.specs.Carried.{Walk, on_walk, to_target}
 use Rattle.merge_walks.specs.Made.{settled}
 use Rattle.merge_walks.specs.Walked.{join_objects}
-use Rattle.merge_alike.specs.Parts.{plain_in, same_in, lists_in, named_in}
-use Rattle.merge_carried.proofs.Objects.{object_seen}
+use Rattle.schema_sameness.specs.Parts.{plain_in, same_in, lists_in, named_in}
+use Rattle.merge_walked.proofs.Objects.{object_seen}
 use Rattle.merge_steps.proofs.Leading.{mapped_after, noted_mapped}
 use Rattle.merge_sides.specs.Met.{referred_by, referred_outcome, target_by, target_then}
 use Rattle.merge_sides.specs.Referring.{reference_in, own_walk_in, referred_in, refer_alike, target_outcome, first_outcome, other_outcome, referring_outcome, sides_outcome, drops_beside}

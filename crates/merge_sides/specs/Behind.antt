@@ -10,7 +10,7 @@ use Rattle.merge_defs.specs.Members.{with_same}
 use Rattle.merge_defs.specs.Merge.{tidied}
 use Rattle.merge_walks.specs.Carried.{Walk}
 use Rattle.merge_walks.specs.Made.{on_made, settled}
-use Rattle.merge_alike.specs.Parts.{same_in, lists_in, named_in}
+use Rattle.schema_sameness.specs.Parts.{same_in, lists_in, named_in}
 use Rattle.merge_sides.specs.Leaves.{LeavesOf}
 use Rattle.merge_sides.specs.Met.{body_outcome}
 

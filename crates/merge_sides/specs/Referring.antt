@@ -8,7 +8,7 @@ use Rattle.merge_defs.specs.Merge.{target_merged, two_objects, drops_siblings, r
 use Rattle.merge_walks.specs.Carried.{Walk, own_walk, on_walk, to_target}
 use Rattle.merge_walks.specs.Made.{longer, on_made, settled}
 use Rattle.merge_walks.specs.Walked.{join_objects, join_sides}
-use Rattle.merge_alike.specs.Parts.{plain_in, same_in, lists_in, named_in}
+use Rattle.schema_sameness.specs.Parts.{plain_in, same_in, lists_in, named_in}
 
 abbrev pub reference_in : Schema → Option (List ℕ)
 reference_in s = (plain_in s).reference

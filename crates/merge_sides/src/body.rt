@@ -14,9 +14,9 @@ ghost use Rattle.merge_sides.specs.Met.{body_outcome, listing, walk_or};
 
 use crate::met::Leaves;
 use crate::references::as_schema;
-use merge_carried::settled;
 use merge_leaves::{both_values, tidied_values};
 use merge_steps::{Stop, answered};
+use merge_walked::settled;
 use schema_types::{
     ArrayValidation, NumberValidation, ObjectValidation, Schema, SchemaObject, StringValidation,
     Types, Walk,

@@ -2,7 +2,7 @@
 ghost use Rattle.std.specs.Prelude.{List, option_map, string_bytes};
 ghost use Rattle.schema_defs.specs.Schema.{Schema as SchemaOf};
 ghost use Rattle.schema_types.specs.View.{numbers_view, object_view, texts_view, types_view};
-ghost use Rattle.merge_alike.specs.Parts.{plain_in};
+ghost use Rattle.schema_sameness.specs.Parts.{plain_in};
 ghost use Rattle.merge_defs.specs.Outcome.{Note, Outcome, where_both};
 ghost use Rattle.merge_defs.specs.Leaves.{two_formats, two_numbers, two_texts, two_types};
 ghost use Rattle.merge_parts.specs.View.{notes_view};

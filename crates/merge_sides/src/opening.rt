@@ -6,9 +6,9 @@ ghost use Rattle.merge_defs.specs.Outcome.{Note, Outcome};
 ghost use Rattle.merge_walks.specs.Walked.{unless_deep};
 ghost use Rattle.merge_steps.specs.Ends.{Goes};
 
-use merge_carried::{Side, has_more_steps, opened};
 use merge_parts::MergeFault;
 use merge_steps::Stop;
+use merge_walked::{Side, has_more_steps, opened};
 use schema_types::Schema;
 use std::alloc::Global;
 

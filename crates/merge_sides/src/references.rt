@@ -14,10 +14,10 @@ ghost use Rattle.merge_sides.specs.Met.{met_outcome, referred_outcome, referred_
 ghost use Rattle.merge_sides.specs.Referring.{referred_in, target_outcome};
 
 use crate::met::{Asked, Met, Referred};
-use merge_alike::{roughly, wholly};
-use merge_carried::{made_on, own_walk, settled as settled_on, to_target, walked};
 use merge_parts::{MergeKind, MergeNote, Way, note_if};
 use merge_steps::Stop;
+use merge_walked::{made_on, own_walk, settled as settled_on, to_target, walked};
+use schema_sameness::{roughly, wholly};
 use schema_types::{Document, Schema, SchemaObject, Walk};
 use std::alloc::{AllocError, Global};
 

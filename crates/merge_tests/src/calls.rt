@@ -4,11 +4,11 @@ use merge_leaves::examples::{
     multiples_are_joined, names_rise, one_address_is_left, one_type_is_left, patterns_stand_once,
     sizes_clash, values_are_left,
 };
+use merge_less::examples::{a_property_stands, a_value_is_left};
 use merge_members::examples::{names_of_both_rise, one_name_is_left};
 use merge_parts::examples::notes_stand_in_order;
 use merge_sides::examples::a_value_of_both_is_left;
 use merge_steps::examples::never_is_nothing;
-use merge_taken::examples::{a_property_stands, a_value_is_left};
 use std::alloc::AllocError;
 use std::test::Fail;
 

@@ -4,12 +4,12 @@ ghost use Rattle.schema_defs.specs.Walks.{IsGuarded};
 ghost use Rattle.schema_types.specs.DocumentView.{document_view};
 
 use crate::calls::said;
-use merge_told::examples::{
-    a_clash_is_told, one_value_is_told, texts_are_roughly_texts, texts_are_told,
-};
+use merge_cycle::examples::{integers_are_left, items_clash, one_value_is_left, texts_stay};
 use schema_defs::Setting;
 use schema_loops::is_guarded;
-use schema_merge::examples::{integers_are_left, items_clash, one_value_is_left, texts_stay};
+use schema_merge::examples::{
+    a_clash_is_told, one_value_is_told, texts_are_roughly_texts, texts_are_told,
+};
 use schema_types::{Document, Schema};
 use std::alloc::Global;
 use std::collections::BTreeMap;

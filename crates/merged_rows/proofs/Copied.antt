@@ -10,8 +10,8 @@ use Rattle.schema_types.specs.declared.schema.ArrayValidation.{ArrayValidation}
 use Rattle.schema_types.specs.declared.schema.ObjectValidation.{ObjectValidation}
 use Rattle.schema_types.specs.declared.schema.Types.{Types}
 use Rattle.schema_types.specs.declared.schema.StringValidation.{StringValidation}
-use Rattle.row_types.specs.declared.given.Keywords.{Keywords}
-use Rattle.row_types.specs.Given.{keywords_view, given_types_view, given_values_view}
+use Rattle.row_findings.specs.declared.given.Keywords.{Keywords}
+use Rattle.row_findings.specs.Given.{keywords_view, given_types_view, given_values_view}
 
 same_mapped : (o : Option Subschemas) → same_of (former-SchemaObject-subschemas.map Subschemas Same subschemas_view o) ≡ same_of (option_map subschemas_view o)
 same_mapped None = refl

@@ -1,8 +1,8 @@
 -- The places of a trail's walk.
 use Rattle.std.proofs.Common.{◌≡◌, ◌+◌, List, [], ◌∷◌, length, arith}
 use Rattle.std.proofs.lemmas.List.{length-append}
-use Rattle.row_types.specs.declared.part.Steps.{Steps}
-use Rattle.row_types.specs.View.{steps_view}
+use Rattle.row_findings.specs.declared.part.Steps.{Steps}
+use Rattle.row_findings.specs.View.{steps_view}
 use Rattle.merge_walks.specs.Carried.{Walk, to_child}
 use Rattle.merged_rows.specs.Starts.{walk_by}
 

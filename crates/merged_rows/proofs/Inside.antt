@@ -7,10 +7,10 @@ use Rattle.convert_defs.specs.Convert.{Handed}
 use Rattle.convert_walks.specs.Spot as spots
 use Rattle.convert_walks.specs.Spot.{Spot, Branches, branch_at, part_spot, spot_inside, spot_of_branch}
 use Rattle.merge_walks.specs.Carried.{Walk, last_of, to_child, is_made, unmarked}
-use Rattle.row_types.specs.declared.part.Steps.{Steps}
-use Rattle.row_types.specs.declared.part.PartKind.{PartKind}
-use Rattle.row_types.specs.declared.part.PartKind.TheVariants as parts
-use Rattle.row_types.specs.View.{part_by, steps_view}
+use Rattle.row_findings.specs.declared.part.Steps.{Steps}
+use Rattle.row_findings.specs.declared.part.PartKind.{PartKind}
+use Rattle.row_findings.specs.declared.part.PartKind.TheVariants as parts
+use Rattle.row_findings.specs.View.{part_by, steps_view}
 use Rattle.merged_rows.specs.declared.start.Start.{Start}
 use Rattle.merged_rows.specs.declared.place.Place.{Place}
 use Rattle.merged_rows.specs.Starts.{handed_to, is_boolean, made_by, path_by, place_spot, plain_spot, spot_behind, spot_of, walk_by, walk_in, walked_spot}

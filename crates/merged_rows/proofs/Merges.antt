@@ -14,10 +14,10 @@ use Rattle.merge_parts.specs.declared.fault.MergeFault.{MergeFault}
 use Rattle.merge_parts.specs.Steps.{Faults, Steps}
 use Rattle.merge_walks.specs.Carried.{carried, on_walk, to_target}
 use Rattle.merge_walks.specs.Walked.{join_by_walks, merge_by_walks, with_by_walks}
-use Rattle.row_types.specs.declared.part.Steps as code
-use Rattle.row_types.specs.declared.part.PartKind.{PartKind}
-use Rattle.row_types.specs.declared.part.PartKind.TheVariants as parts
-use Rattle.row_types.specs.View.{part_by}
+use Rattle.row_findings.specs.declared.part.Steps as code
+use Rattle.row_findings.specs.declared.part.PartKind.{PartKind}
+use Rattle.row_findings.specs.declared.part.PartKind.TheVariants as parts
+use Rattle.row_findings.specs.View.{part_by}
 use Rattle.merged_rows.specs.declared.place.Place.{Place}
 use Rattle.merged_rows.specs.declared.start.Start.{Start}
 use Rattle.merged_rows.specs.Rows.{begins_made, carried_part, merged_without, subschemas_in, without_reference, without_subschemas}

@@ -6,9 +6,9 @@ use Rattle.schema_types.specs.View.{schema_view, schemas_view}
 use Rattle.schema_types.specs.declared.schema.Schema.{Schema}
 use Rattle.convert_walks.specs.Spot.{Spot}
 use Rattle.convert_walks.specs.Merging.{carried_parts}
-use Rattle.merge_carried.proofs.Lists.{relisted}
-use Rattle.row_types.specs.declared.part.Part.{Part}
-use Rattle.row_types.specs.View.{part_view}
+use Rattle.merge_walked.proofs.Lists.{relisted}
+use Rattle.row_findings.specs.declared.part.Part.{Part}
+use Rattle.row_findings.specs.View.{part_view}
 use Rattle.merged_rows.specs.Rows.{carried_part}
 
 module _ (o : Spot) (ps : List Part) where

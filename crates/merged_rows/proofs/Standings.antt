@@ -7,7 +7,7 @@ use Rattle.convert_walks.specs.Tree.{Standing, answered_as, instead, plain_of}
 use Rattle.merge_defs.specs.Outcome.{Note, Outcome, fault, never, answer, noted}
 use Rattle.merge_parts.specs.Steps.{Steps}
 use Rattle.merge_walks.specs.Carried.{own_walk}
-use Rattle.row_types.specs.declared.part.Steps as code
+use Rattle.row_findings.specs.declared.part.Steps as code
 use Rattle.merged_rows.specs.declared.start.Start.{Start}
 use Rattle.merged_rows.specs.Rows.{AnnotationsD, annotated_by, annotations_in, handed_on, own_walk_in, with_annotations}
 use Rattle.merged_rows.specs.Starts.{spot_of}

@@ -2,8 +2,8 @@
 use Rattle.std.proofs.Common.{◌≡◌, ℕ, zero, suc, ◌+◌, ◌<◌, ◌≤◌, length, drop, drop-cons, get_or, slice_get, arith, List, [], ◌∷◌, ◌++◌, false, Some, None, refl, sym, ap, ◌∙◌, append_assoc, append-nil}
 use Rattle.schema_defs.specs.Location.{Location}
 use Rattle.merge_walks.specs.Carried.{Walk, last_of, to_child}
-use Rattle.row_types.specs.declared.part.Steps.{Steps}
-use Rattle.row_types.specs.View.{steps_view}
+use Rattle.row_findings.specs.declared.part.Steps.{Steps}
+use Rattle.row_findings.specs.View.{steps_view}
 use Rattle.merged_rows.specs.declared.start.Start.{Start}
 use Rattle.merged_rows.specs.Starts.{walk_by, trail_steps, path_by, made_by}
 

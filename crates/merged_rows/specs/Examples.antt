@@ -7,9 +7,9 @@ use Rattle.schema_defs.specs.Build.{typed}
 use Rattle.merge_defs.specs.Samples.{read}
 use Rattle.merge_walks.specs.Carried.{Walk, has_more_steps, on_walk}
 use Rattle.convert_walks.specs.Spot.{spot_inside}
-use Rattle.row_types.specs.View.{steps_view}
-use Rattle.row_types.specs.declared.part.Keyword.TheVariants.{AllOf, Not}
-use Rattle.row_types.specs.declared.part.Steps.TheVariants.{Under, Placed}
+use Rattle.row_findings.specs.View.{steps_view}
+use Rattle.row_findings.specs.declared.part.Keyword.TheVariants.{AllOf, Not}
+use Rattle.row_findings.specs.declared.part.Steps.TheVariants.{Under, Placed}
 use Rattle.merged_rows.specs.declared.start.Start.{Start}
 use Rattle.merged_rows.specs.Starts.{spot_of, spot_behind, walk_by, walked_spot}
 

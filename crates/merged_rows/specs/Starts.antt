@@ -6,8 +6,8 @@ use Rattle.convert_defs.specs.Convert.{Handed}
 use Rattle.convert_defs.specs.Row.{Part, child, of_branch, lone, made}
 use Rattle.merge_walks.specs.Carried.{Walk, last_of, to_child, is_made, unmarked}
 use Rattle.convert_walks.specs.Spot.{Spot, place_inside}
-use Rattle.row_types.specs.declared.part.Steps.{Steps}
-use Rattle.row_types.specs.View.{steps_view}
+use Rattle.row_findings.specs.declared.part.Steps.{Steps}
+use Rattle.row_findings.specs.View.{steps_view}
 use Rattle.merged_rows.specs.declared.start.Start.{Start}
 use Rattle.merged_rows.specs.declared.place.Place.{Place}
 

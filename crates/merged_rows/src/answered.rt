@@ -7,7 +7,7 @@ ghost use Rattle.convert_walks.specs.Spot.{is_made_schema, made_by as made_by_of
 ghost use Rattle.convert_walks.specs.Tree.{answered_as, instead, plain_of};
 ghost use Rattle.merge_defs.specs.Outcome.{Note, Outcome};
 ghost use Rattle.merge_parts.specs.Steps.{Steps as StepsOf};
-ghost use Rattle.row_types.specs.Given.{source_view};
+ghost use Rattle.row_findings.specs.Given.{source_view};
 ghost use Rattle.merged_rows.specs.Rows.{annotated_by, annotations_in, annotations_view, own_walk_in, standing_view, with_annotations, with_texts};
 ghost use Rattle.merged_rows.specs.Starts.{spot_of};
 
@@ -16,8 +16,8 @@ use crate::instead::Standing;
 use crate::owning::{as_schema, text_of, value_of};
 use crate::places::{is_made_at, location_of, walk_of};
 use crate::start::Start;
-use merge_carried::{is_made, own_walk};
-use row_types::{Source, Steps};
+use merge_walked::{is_made, own_walk};
+use row_findings::{Source, Steps};
 use schema_types::{Schema, SchemaObject, Walk};
 use serde_json::Value;
 use std::alloc::{AllocError, Global};

@@ -4,7 +4,7 @@ ghost use Rattle.merge_walks.specs.Carried.{has_more_steps};
 ghost use Rattle.merged_rows.specs.Starts.{walk_by};
 
 use crate::start::Start;
-use row_types::Steps;
+use row_findings::Steps;
 
 /// Whether the walk of what stands at the end of a trail has more than so many steps. It takes no memory.
 #[tactic(auto, using(crate::proofs::Counted::counts))]

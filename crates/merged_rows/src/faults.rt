@@ -16,7 +16,7 @@ use crate::places::{location_of, walk_of};
 use crate::start::Start;
 use merge_faults::{depth_fault, unsupported_kind};
 use merge_parts::{MergeFault, UnsupportedMerge};
-use row_types::Steps;
+use row_findings::Steps;
 use schema_tree::Fault;
 use std::alloc::Global;
 

@@ -4,7 +4,7 @@ ghost use Rattle.convert_defs.specs.Convert.{Handed};
 ghost use Rattle.convert_walks.specs.Told.{merge_note, name_of as name_of_kind, placed_note, way_of as way_of_merge};
 ghost use Rattle.merge_parts.specs.View.{kind_view as merge_kind_view, notes_view as merge_notes_view, way_view as merge_way_view};
 ghost use Rattle.note_order.specs.Notes.{name_view, notes_view};
-ghost use Rattle.row_types.specs.View.{branch_view, note_view as row_note_view, way_view};
+ghost use Rattle.row_findings.specs.View.{branch_view, note_view as row_note_view, way_view};
 ghost use Rattle.merged_rows.specs.Starts.{spot_of};
 
 use crate::parts::note_path;
@@ -12,7 +12,7 @@ use crate::places::location_of;
 use crate::start::Start;
 use merge_parts::{MergeKind, MergeNote};
 use note_order::{NoteName, PlacedNote};
-use row_types::{Branch, Note, NoteKind, Steps, Way};
+use row_findings::{Branch, Note, NoteKind, Steps, Way};
 use schema_types::Location;
 use std::alloc::{AllocError, Global};
 

@@ -4,11 +4,11 @@ ghost use Rattle.model_defs.specs.Layer.{is_null as is_null_of};
 ghost use Rattle.convert_defs.specs.Scalars.{non_null as non_null_of};
 ghost use Rattle.merge_walks.specs.Carried.{carried as carried_of};
 ghost use Rattle.schema_types.specs.View.{array_view, kept_view, members_view, object_view, same_of, schema_view, subschemas_view, texts_view, types_view};
-ghost use Rattle.row_types.specs.Given.{given_types_view, given_values_view, keywords_view, source_view};
+ghost use Rattle.row_findings.specs.Given.{given_types_view, given_values_view, keywords_view, source_view};
 ghost use Rattle.merged_rows.specs.Rows.{subschemas_in, without_reference as without_reference_of, without_subschemas};
 
 use crate::copies::{copy_array, copy_members, copy_subschemas, copy_texts, copy_types};
-use row_types::{GivenTypes, GivenValues, Keywords, Source};
+use row_findings::{GivenTypes, GivenValues, Keywords, Source};
 use schema_types::{
     ArrayValidation, ObjectValidation, Schema, SchemaObject, StringValidation, Subschemas, Types,
     Walk, copy_list_of_values,
@@ -208,7 +208,7 @@ pub fn owned(alloc: Global, source: &Source<'_>) -> Result<Schema, AllocError>
 
 // ---- with a walk, and without keywords
 
-#[tactic(auto, using(merge_carried::proofs::Carries::keeps, merge_carried::proofs::Carries::takes))]
+#[tactic(auto, using(merge_walked::proofs::Carries::keeps, merge_walked::proofs::Carries::takes))]
 fn carried_object(object: Box<SchemaObject>, walk: Walk) -> Box<SchemaObject>
     ensures { object_view result.value ≡ carried_of walk (object_view object.value) }
 {

@@ -2,9 +2,9 @@
 ghost use Rattle.std.specs.Prelude.{◌≡◌, map, option_map};
 ghost use Rattle.schema_defs.specs.Texts.{Relations};
 ghost use Rattle.convert_walks.specs.Tree.{if_merged};
-ghost use Rattle.row_types.specs.View.{part_view, row_view};
+ghost use Rattle.row_findings.specs.View.{part_view, row_view};
 
-use row_types::{Part, Row};
+use row_findings::{Part, Row};
 
 /// The parts that the row merges, where it merges some. It takes no memory.
 pub fn merged_parts<'r, 'd>(row: &'r Row<'d>) -> Option<&'r Vec<Part<'d>>>

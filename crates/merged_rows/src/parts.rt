@@ -4,15 +4,15 @@ ghost use Rattle.convert_defs.specs.Convert.{Handed};
 ghost use Rattle.convert_defs.specs.Order.{same_place as same_place_of};
 ghost use Rattle.convert_walks.specs.Spot.{branch_at, part_spot, spot_inside, spot_of_branch};
 ghost use Rattle.convert_walks.specs.Told.{note_path as note_path_of};
-ghost use Rattle.row_types.specs.Given.{source_view};
-ghost use Rattle.row_types.specs.View.{branch_view, part_view, steps_view};
+ghost use Rattle.row_findings.specs.Given.{source_view};
+ghost use Rattle.row_findings.specs.View.{branch_view, part_view, steps_view};
 ghost use Rattle.merged_rows.specs.Starts.{handed_to, place_spot, spot_of};
 
 use crate::place::Place;
 use crate::places::{location_of, with_steps};
 use crate::spots::{place_inside, start_at};
 use crate::start::Start;
-use row_types::{Branch, Keyword, Part, PartKind, Source, Steps};
+use row_findings::{Branch, Keyword, Part, PartKind, Source, Steps};
 use schema_types::Location;
 use std::alloc::{AllocError, Global};
 

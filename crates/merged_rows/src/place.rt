@@ -1,6 +1,6 @@
 //! Where a schema inside stands.
 use crate::start::Start;
-use row_types::Steps;
+use row_findings::Steps;
 
 /// A start of its own, or that of its owner, and the steps since.
 #[derive(Drop)]

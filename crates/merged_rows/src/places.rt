@@ -2,11 +2,11 @@
 ghost use Rattle.std.specs.Prelude.{◌≡◌, ◌∷◌, ◌++◌, [], IfOk, string_bytes};
 ghost use Rattle.schema_defs.specs.Location.{place as place_of};
 ghost use Rattle.merge_walks.specs.Carried.{to_child};
-ghost use Rattle.row_types.specs.View.{keyword_view, steps_view};
+ghost use Rattle.row_findings.specs.View.{keyword_view, steps_view};
 ghost use Rattle.merged_rows.specs.Starts.{made_by, path_by, trail_steps, walk_by};
 
 use crate::start::Start;
-use row_types::{Keyword, Steps};
+use row_findings::{Keyword, Steps};
 use schema_types::{Location, Walk};
 use std::alloc::{AllocError, Global};
 

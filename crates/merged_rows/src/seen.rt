@@ -2,10 +2,10 @@
 ghost use Rattle.std.specs.Prelude.{◌≡◌, option_map, string_bytes};
 ghost use Rattle.schema_defs.specs.Children.{reference_of};
 ghost use Rattle.schema_types.specs.View.{object_view, schema_view};
-ghost use Rattle.row_types.specs.Given.{source_view};
+ghost use Rattle.row_findings.specs.Given.{source_view};
 ghost use Rattle.merged_rows.specs.Starts.{is_boolean as is_boolean_of, walk_in as walk_in_of};
 
-use row_types::Source;
+use row_findings::Source;
 use schema_types::{Schema, SchemaObject, Walk};
 
 fn walk_in_object(object: &SchemaObject) -> Option<&Walk>

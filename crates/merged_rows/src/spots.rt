@@ -3,16 +3,16 @@ ghost use Rattle.std.specs.Prelude.{◌≡◌, [], IfOk, true, unwrap_or, if◌t
 ghost use Rattle.convert_defs.specs.Convert.{Handed};
 ghost use Rattle.convert_walks.specs.Spot.{spot_inside};
 ghost use Rattle.merge_walks.specs.Carried.{last_of, to_child};
-ghost use Rattle.row_types.specs.Given.{source_view};
-ghost use Rattle.row_types.specs.View.{steps_view};
+ghost use Rattle.row_findings.specs.Given.{source_view};
+ghost use Rattle.row_findings.specs.View.{steps_view};
 ghost use Rattle.merged_rows.specs.Starts.{made_by, path_by, place_spot, plain_spot, spot_behind, spot_of, walked_spot};
 
 use crate::place::Place;
 use crate::places::{is_made_at, location_of, longer, to_part, walk_of};
 use crate::seen::{is_boolean, walk_in};
 use crate::start::Start;
-use merge_carried::{is_made, unmarked};
-use row_types::{Source, Steps};
+use merge_walked::{is_made, unmarked};
+use row_findings::{Source, Steps};
 use schema_types::{Location, Walk};
 use std::alloc::{AllocError, Global};
 

@@ -2,7 +2,7 @@
 use Rattle.std.specs.Prelude.{List, map}
 use Rattle.convert_walks.specs.Told as defs
 use Rattle.convert_walks.specs.Told.{Note, row_note, reference_note, formats_note, clash_note, members_note, subtract_note, absent_note}
-use Rattle.row_types.specs.View.{way_view, kind_view}
+use Rattle.row_findings.specs.View.{way_view, kind_view}
 use Rattle.note_order.specs.declared.note.NoteName.{NoteName}
 use Rattle.note_order.specs.declared.note.NoteName.TheVariants.{Row, Reference, Formats, Clash, Members, Subtract, Absent}
 use Rattle.note_order.specs.declared.note.PlacedNote.{PlacedNote}

@@ -5,11 +5,11 @@ ghost use Rattle.std.specs.Cmp.{on_equiv, on_per, on_po, on_total, partial_equiv
 ghost use Rattle.std.specs.Cmp.Lexicographic.{slice_cmp};
 ghost use Rattle.convert_defs.specs.Order.{kind_number as kind_number_of, way_number as way_number_of};
 ghost use Rattle.convert_walks.specs.Told.{note_number as note_number_of};
-ghost use Rattle.row_types.specs.View.{kind_view, way_view};
+ghost use Rattle.row_findings.specs.View.{kind_view, way_view};
 ghost use Rattle.note_order.specs.Notes.{name_view, placed_view};
 ghost use Rattle.note_order.specs.First.{note_cmp, note_equiv, note_total};
 
-use row_types::{NoteKind, Way};
+use row_findings::{NoteKind, Way};
 use schema_types::Location;
 use std::cmp::Ordering;
 

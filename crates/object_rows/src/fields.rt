@@ -3,11 +3,11 @@ ghost use Rattle.std.specs.Prelude.{◌≡◌, ◌++◌, [], ◌∷◌, false, I
 ghost use Rattle.schema_defs.specs.Layer.{property_at, is_given};
 ghost use Rattle.schema_types.specs.View.{schema_view, properties_view, maybe_view, kept_view};
 ghost use Rattle.convert_defs.specs.Owners.{state_of, default_of as default_in, may_be_null as may_be_null_of, property_fields as property_fields_of, outside_names as outside_names_of, outside_row as outside_row_of, is_empty};
-ghost use Rattle.row_types.specs.View.{state_view, field_view, outside_view};
+ghost use Rattle.row_findings.specs.View.{state_view, field_view, outside_view};
 ghost use Rattle.object_rows.specs.Parts.{field_of};
 
 use crate::members::{is_property, is_required, keeps_rest};
-use row_types::{
+use row_findings::{
     FieldRow, FieldState, Keyword, OutsideRow, Part, PartKind, Source, Steps, part_under,
 };
 use schema_types::{Schema, Setting};

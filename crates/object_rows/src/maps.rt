@@ -5,10 +5,10 @@ ghost use Rattle.schema_defs.specs.Texts.{Relations};
 ghost use Rattle.schema_types.specs.View.{maybe_view, properties_view, schema_view};
 ghost use Rattle.enum_defs.specs.Words.{has_type as has_type_of, without_same, without_lists, without_named};
 ghost use Rattle.convert_defs.specs.Owners.{any_text as any_text_of, name_part as name_part_of, names_texts as names_texts_of, lists_texts as lists_texts_of, map_of, pattern_row as pattern_row_of};
-ghost use Rattle.row_types.specs.Given.{plain_view, same_view, lists_view, named_view, keywords_view, given_values_view};
-ghost use Rattle.row_types.specs.View.{part_view, row_view};
+ghost use Rattle.row_findings.specs.Given.{plain_view, same_view, lists_view, named_view, keywords_view, given_values_view};
+ghost use Rattle.row_findings.specs.View.{part_view, row_view};
 
-use row_types::{
+use row_findings::{
     Cause, GivenValues, Keyword, Keywords, Part, PartKind, Row, Source, Steps, has_type,
     is_without_lists, is_without_named, is_without_same, keywords_of, made, no_keyword, of_type,
     part_under,

@@ -6,18 +6,18 @@ ghost use Rattle.schema_types.specs.View.{members_view, named_of};
 ghost use Rattle.convert_defs.specs.Row.{add_notes, asking, noted as noted_as, here, narrowed, widened, names_note};
 ghost use Rattle.convert_defs.specs.IntegerRow.{note_if};
 ghost use Rattle.convert_defs.specs.Owners.{object_finding as object_finding_of, no_property, map_of, pattern_names, pattern_row as pattern_row_of, struct_of};
-ghost use Rattle.row_types.specs.View.{note_view, row_view, finding_view};
+ghost use Rattle.row_findings.specs.View.{note_view, row_view, finding_view};
 ghost use Rattle.object_rows.specs.Parts.{props_in, patterns_in, rest_in, names_in, rules_in, found_with, found_by_parts};
 
 use crate::fields::{outside_row, property_fields};
 use crate::maps::{any_text, map_row, pattern_row};
 use crate::members::{is_counted, is_false, is_map, is_pattern_map, is_without};
-use row_types::{Finding, Note, NoteKind, Patterns, Row, Way, anything, noted, with_note};
+use row_findings::{Finding, Note, NoteKind, Patterns, Row, Way, anything, noted, with_note};
 use schema_types::{ObjectValidation, Setting};
 use std::alloc::{AllocError, Global};
 
 /// The row of objects by the keywords of members, with the notes that are given before.
-#[tactic(auto, using(row_types::proofs::PlainRows::plain_noted))]
+#[tactic(auto, using(row_findings::proofs::PlainRows::plain_noted))]
 pub fn object_finding<'d>(
     alloc: Global,
     setting: Setting,

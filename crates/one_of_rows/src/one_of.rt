@@ -10,7 +10,7 @@ ghost use Rattle.model_defs.specs.Model.{external_tag};
 ghost use Rattle.convert_defs.specs.Row.{noted as noted_as, branching, enum_row, by_contents};
 ghost use Rattle.convert_defs.specs.Shapes.{schemas_of, external_members, adjacent_members, internal_members, has_tag_alone as has_tag_alone_of};
 ghost use Rattle.convert_defs.specs.Table.{one_of_finding as one_of_finding_of, one_of_external, one_of_adjacent, one_of_internal, one_of_only, only_member as only_member_of, open_branches, untagged_row as untagged_row_of, mixed_notes, internal_row, adjacent_row, one_null_member};
-ghost use Rattle.row_types.specs.View.{row_view, finding_view, variant_view};
+ghost use Rattle.row_findings.specs.View.{row_view, finding_view, variant_view};
 ghost use Rattle.member_rows.specs.Members.{member_view, ruled_branches};
 ghost use Rattle.one_of_rows.specs.Tagged.{closed_shapes, open_shapes, internal_by, adjacent_by};
 
@@ -19,7 +19,7 @@ use member_rows::{
     has_one_null, has_tag_alone, internal_variants, lone_part, only_member, option_member,
     some_closed, some_open, untagged_variants, with_open_branches, with_text_branches,
 };
-use row_types::{
+use row_findings::{
     Closing, Finding, NoteKind, Row, TagRow, VariantRow, Way, noted, plainly, with_note,
 };
 use schema_tree::{Document, Schema, Setting};

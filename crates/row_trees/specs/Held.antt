@@ -1,7 +1,7 @@
 -- What variants of the program hold.
 use Rattle.std.specs.Prelude.{List, map}
 use Rattle.entry_defs.specs.Entry.{no_fields}
-use Rattle.entry_trees.specs.View.{fields_view, parts_of, tree_view}
+use Rattle.tree_types.specs.View.{fields_view, parts_of, tree_view}
 use Rattle.row_trees.specs.declared.bodies.Held.{Held}
 use Rattle.row_trees.specs.declared.bodies.Held.TheVariants as variants
 use Rattle.row_trees.specs.declared.bodies.Body.{Body}

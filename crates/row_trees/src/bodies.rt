@@ -1,5 +1,5 @@
 //! What variants hold, before it is known whether their enum is closed.
-use entry_trees::{FieldHead, Tree};
+use tree_types::{FieldHead, Tree};
 
 /// What a variant holds: nothing, one tree, or fields.
 #[derive(Drop)]

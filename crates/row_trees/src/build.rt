@@ -5,21 +5,21 @@ ghost use Rattle.schema_defs.specs.Texts.{Relations};
 ghost use Rattle.entry_defs.specs.Entry.{any_entry, item, struct_shape};
 ghost use Rattle.convert_defs.specs.Convert.{entry_of};
 ghost use Rattle.convert_defs.specs.Table.{reference_row};
-ghost use Rattle.row_types.specs.View.{row_view, rule_view, field_view, outside_view};
-ghost use Rattle.entry_trees.specs.View.{rule_view as tree_rule_view, tree_view};
+ghost use Rattle.row_findings.specs.View.{row_view, rule_view, field_view, outside_view};
+ghost use Rattle.tree_types.specs.View.{rule_view as tree_rule_view, tree_view};
 ghost use Rattle.row_trees.specs.Build.{built, built_fields, built_outside, after_fields};
 
 use crate::lists::{fields_of, tuple_of, with_outside};
 use crate::supply::first_tree;
 use crate::variants::enum_of;
-use entry_trees::{Atom, Tree, TreeRule, Wrap};
-use row_types::{FieldRow, OutsideRow, Row, RowRule};
+use row_findings::{FieldRow, OutsideRow, Row, RowRule};
 use schema_tree::{TextFault, Texts};
 use std::alloc::{AllocError, Global};
 use std::collections::VecDeque;
 use tree_parts::{
     as_option, atom, leaf_tree, map_tree, newtype, one, pattern_keys, struct_tree, target_named,
 };
+use tree_types::{Atom, Tree, TreeRule, Wrap};
 
 /// The tree of the row, whose item gets that name where it makes one, of the trees of its parts in their order. Of fewer
 /// trees than parts the answer is want of memory. A refused row, and one that needs a merge, are any value.

@@ -1,16 +1,16 @@
 //! Fields and places.
 ghost use Rattle.std.specs.Prelude.{◌≡◌, IfOk, map, option_map};
 ghost use Rattle.entry_defs.specs.Entry.{Entries, Fields};
-ghost use Rattle.row_types.specs.View.{field_view, outside_view, part_view};
-ghost use Rattle.entry_trees.specs.View.{fields_view, parts_of, places_then, rest_fields, tree_view};
+ghost use Rattle.row_findings.specs.View.{field_view, outside_view, part_view};
+ghost use Rattle.tree_types.specs.View.{fields_view, parts_of, places_then, rest_fields, tree_view};
 ghost use Rattle.row_trees.specs.Build.{after_fields, after_parts, built_fields, built_outside, built_places, built_tuple};
 
 use crate::supply::first_tree;
-use entry_trees::{FieldHead, Label, Tree};
-use row_types::{FieldRow, OutsideRow, Part};
+use row_findings::{FieldRow, OutsideRow, Part};
 use std::alloc::{AllocError, Global};
 use std::collections::VecDeque;
 use tree_parts::{alike_places, nullable, outside, tuple_tree, with_field, with_place};
+use tree_types::{FieldHead, Label, Tree};
 
 /// The fields, each of the first tree that is left.
 pub(crate) fn fields_of<'d>(

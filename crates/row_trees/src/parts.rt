@@ -2,9 +2,9 @@
 ghost use Rattle.std.specs.Prelude.{◌≡◌, ◌∷◌, ◌++◌, [], IfOk, OnOk, map, option_map};
 ghost use Rattle.schema_defs.specs.Texts.{Relations};
 ghost use Rattle.convert_defs.specs.Row.{row_parts, field_parts, outside_parts, further_parts, body_parts, variants_parts};
-ghost use Rattle.row_types.specs.View.{part_view, field_view, outside_view, body_view, variant_view, row_view};
+ghost use Rattle.row_findings.specs.View.{part_view, field_view, outside_view, body_view, variant_view, row_view};
 
-use row_types::{FieldRow, OutsideRow, Part, Row, VariantBody, VariantRow};
+use row_findings::{FieldRow, OutsideRow, Part, Row, VariantBody, VariantRow};
 use std::alloc::{AllocError, Global};
 
 /// The parts that the row converts, in the order of conversion.

@@ -1,10 +1,10 @@
 //! Trees that are taken one after the other.
 ghost use Rattle.std.specs.Prelude.{◌≡◌, ◌∷◌, IfOk, map};
-ghost use Rattle.entry_trees.specs.View.{tree_view};
+ghost use Rattle.tree_types.specs.View.{tree_view};
 
-use entry_trees::Tree;
 use std::alloc::AllocError;
 use std::collections::VecDeque;
+use tree_types::Tree;
 
 /// Takes the first tree. Where there is none, it answers want of memory.
 pub(crate) fn first_tree<'d>(trees: &mut VecDeque<Tree<'d>>) -> Result<Tree<'d>, AllocError>

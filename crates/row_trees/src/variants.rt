@@ -2,19 +2,19 @@
 ghost use Rattle.std.specs.Prelude.{◌≡◌, [], IfOk, map, option_map};
 ghost use Rattle.std.specs.List.{list_any};
 ghost use Rattle.convert_defs.specs.Standing.{words_or};
-ghost use Rattle.entry_trees.specs.View.{cases_of, contents_view, parts_of, tree_view, variants_view};
-ghost use Rattle.row_types.specs.View.{body_view, closing_view, tag_view, variant_view};
+ghost use Rattle.tree_types.specs.View.{cases_of, contents_view, parts_of, tree_view, variants_view};
+ghost use Rattle.row_findings.specs.View.{body_view, closing_view, tag_view, variant_view};
 ghost use Rattle.row_trees.specs.Build.{after_body, bodies_held, body_held, built_enum, closed_by, held_content, held_variants, is_closed_held};
 ghost use Rattle.row_trees.specs.Held.{bodies_view, body_seen, held_view};
 
 use crate::bodies::{Body, Held};
 use crate::lists::fields_of;
 use crate::supply::first_tree;
-use entry_trees::{ContentKind, FieldHead, Tree, VariantHead};
-use row_types::{Closing, TagRow, VariantBody, VariantRow};
+use row_findings::{Closing, TagRow, VariantBody, VariantRow};
 use std::alloc::{AllocError, Global};
 use std::collections::VecDeque;
 use tree_parts::{content, enum_tree, is_closed_struct, with_variant};
+use tree_types::{ContentKind, FieldHead, Tree, VariantHead};
 
 // What the variant holds, of the first trees that are left.
 fn held_of<'d>(

@@ -7,8 +7,8 @@ use Rattle.schema_defs.specs.Texts.{Relations}
 use Rattle.schema_types.specs.View.{kept_view}
 use Rattle.model_defs.specs.Layer.{is_null}
 use Rattle.convert_defs.specs.Scalars.{non_null, kept_texts, distinct, texts_in, listed_entry, texts_entry}
-use Rattle.row_types.specs.declared.given.GivenValues.{GivenValues}
-use Rattle.row_types.specs.Given.{given_values_view}
+use Rattle.row_findings.specs.declared.given.GivenValues.{GivenValues}
+use Rattle.row_findings.specs.Given.{given_values_view}
 use Rattle.scalar_rows.specs.Kinds.{passes, stands}
 
 abbrev pub given : Bool → List Value → List Value

@@ -9,13 +9,13 @@ ghost use Rattle.model_defs.specs.Layer.{is_null as null_value};
 ghost use Rattle.convert_defs.specs.Scalars.{enumerated as enumerated_of, boolean_finding as boolean_finding_of, lists_both as lists_both_of, listed_alone as listed_alone_of, without_nulls as without_nulls_of, less_null as less_null_of, never_entry, wanted_of};
 ghost use Rattle.entry_defs.specs.Entry.{unit_entry};
 ghost use Rattle.convert_defs.specs.Table.{constant_finding as constant_finding_of, constant_list};
-ghost use Rattle.row_types.specs.Given.{given_values_view, plain_view, keywords_view};
-ghost use Rattle.row_types.specs.View.{leaf_view, finding_view};
+ghost use Rattle.row_findings.specs.Given.{given_values_view, plain_view, keywords_view};
+ghost use Rattle.row_findings.specs.View.{leaf_view, finding_view};
 ghost use Rattle.scalar_rows.specs.Kinds.{is_text_or_null, passes, of_one_kind};
 
 use crate::texts::given_format;
 use crate::values::{ValueKind, all_of, any_of, is_left_out, is_null, lists_boolean, lists_value};
-use row_types::{
+use row_findings::{
     Cause, Finding, GivenValues, Keywords, Leaf, NoteKind, Row, RowRule, Way, made, no_keyword,
     noted, of_type, plainly, refused, with_note,
 };

@@ -4,10 +4,10 @@ ghost use Rattle.schema_defs.specs.Layer.{format_of};
 ghost use Rattle.schema_defs.specs.Texts.{Relations};
 ghost use Rattle.convert_defs.specs.Row.{add_notes, asking};
 ghost use Rattle.convert_defs.specs.Scalars.{given_format as given_format_of, patterns_in, string_finding as string_finding_of, ruled_text as ruled_text_of, wanted_of};
-ghost use Rattle.row_types.specs.Given.{plain_view};
-ghost use Rattle.row_types.specs.View.{note_view, leaf_view, patterns_view, finding_view};
+ghost use Rattle.row_findings.specs.Given.{plain_view};
+ghost use Rattle.row_findings.specs.View.{note_view, leaf_view, patterns_view, finding_view};
 
-use row_types::{Finding, Keywords, Leaf, Note, NoteKind, Patterns, Row, Way, noted, with_note};
+use row_findings::{Finding, Keywords, Leaf, Note, NoteKind, Patterns, Row, Way, noted, with_note};
 use schema_defs::Format;
 use std::alloc::{AllocError, Global};
 
@@ -47,7 +47,7 @@ pub fn string_finding<'d>(
     Ok(asking_patterns(finding, keywords))
 }
 
-#[tactic(auto, using(row_types::proofs::PlainRows::plain_noted))]
+#[tactic(auto, using(row_findings::proofs::PlainRows::plain_noted))]
 fn text_finding<'d>(
     alloc: Global,
     notes: Vec<Note<'d>>,

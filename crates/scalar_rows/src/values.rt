@@ -4,13 +4,13 @@ ghost use Rattle.std.specs.List.{list_any, list_all};
 ghost use Rattle.json_value.specs.Value.{boolean as boolean_value, same as same_value};
 ghost use Rattle.schema_types.specs.View.{kept_view};
 ghost use Rattle.schema_defs.specs.Layer.{is_listed};
-ghost use Rattle.row_types.specs.Given.{given_values_view};
+ghost use Rattle.row_findings.specs.Given.{given_values_view};
 ghost use Rattle.model_defs.specs.Layer.{is_null as null_value};
 ghost use Rattle.convert_defs.specs.Scalars.{is_number};
 ghost use Rattle.scalar_rows.specs.Kinds.{is_of_kind, left_out, passes as passes_as, stands as stands_as};
 
 use json_value::same;
-use row_types::GivenValues;
+use row_findings::GivenValues;
 use serde_json::Value;
 
 /// The kinds of values that rows tell apart. An owner is a list or an object; a number is whole.

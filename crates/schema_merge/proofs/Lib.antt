@@ -1,9 +1,4 @@
-pub mod Steps
-pub mod Levels
-pub mod Places
-pub mod Named
-pub mod Sames
-pub mod Taken
-pub mod Bodies
-pub mod Answering
-pub mod Standing
+pub mod Refusing
+pub mod Unmarking
+pub mod ByKind
+pub mod InOrder

@@ -1,2 +1,3 @@
-pub mod Within
-pub mod Finds
+pub mod View
+pub mod Ordered
+pub mod Refusals

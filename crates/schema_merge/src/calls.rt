@@ -1,137 +1,160 @@
-//! The calls: merges by walks, with so many levels of parts within parts. What they answer carries its walks as merges see them.
-ghost use Rattle.std.specs.Prelude.{IfErr, IfOk, option_map};
+//! The calls of merging. What they answer tells at the last place of the walk of the first schema that is handed in.
+ghost use Rattle.std.specs.Prelude.{◌≡◌, IfErr, IfOk, option_map};
 ghost use Rattle.schema_defs.specs.Schema.{schemas};
 ghost use Rattle.schema_defs.specs.Walks.{IsGuarded};
-ghost use Rattle.schema_types.specs.View.{same_of, schema_view, schemas_view, subschemas_view};
+ghost use Rattle.schema_types.specs.View.{object_view, same_of, schema_view, schemas_view, subschemas_view};
 ghost use Rattle.schema_types.specs.DocumentView.{document_view};
-ghost use Rattle.merge_walks.specs.Walked.{join_by_walks, less_by_walks, merge_by_walks, with_by_walks};
-ghost use Rattle.merge_parts.specs.Steps.{Faults, Steps};
-ghost use Rattle.merge_parts.specs.View.{notes_view};
-ghost use Rattle.merge_steps.specs.Ends.{Ends};
-ghost use Rattle.schema_merge.specs.Within.{document_in};
+ghost use Rattle.merge_walks.specs.Told.{place_of as place_of_def, place_of_first as place_of_first_def, told as told_of};
+ghost use Rattle.schema_merge.specs.Ordered.{merge_all_told, subtract_told, with_subschemas_told};
+ghost use Rattle.schema_merge.specs.Refusals.{Refused};
+ghost use Rattle.schema_merge.specs.View.{merged_view};
+ghost use Rattle.schema_tree.specs.Fault.{fault_view};
 
-use crate::cycle::{fold, join, less, with_same};
-use crate::how::{How, Scope};
-use merge_carried::{Side, copy_maybe_subschemas, opened};
-use merge_parts::{MergeFault, MergeNote};
-use merge_sides::{finished, refuse_subschemas};
-use merge_steps::{Stop, found};
-use merge_taken::{Listed, divided};
-use schema_types::{Document, Schema, Subschemas};
-use std::alloc::Global;
+use crate::telling::tell;
+use crate::told::Merged;
+use merge_cycle::{less_schemas, merge_schemas, with_subschemas};
+use merge_sides::as_schema;
+use merge_walked::Side;
+use schema_tree::Fault;
+use schema_types::{Document, Location, Schema, SchemaObject, Subschemas};
+use std::alloc::{AllocError, Global};
 
-/// The merge of two schemas, where walks have at most so many steps: a schema, or nothing for never. The notes are written behind those
-/// before them.
-pub fn join_schemas(
-    alloc: Global,
-    document: &Document,
-    most: usize,
-    levels: u32,
-    notes: &mut Vec<MergeNote>,
-    first: Schema,
-    second: Schema,
-) -> Result<Option<Schema>, MergeFault>
-    requires { IsGuarded (document_view document.now) }
-    ensures found { IfOk result (λ o. Steps (notes_view notes.old.items) (notes_view notes.new.items) (join_by_walks (document_view document.now) most levels (schema_view first) (schema_view second)) (option_map schema_view o)) }
-    ensures refused { IfErr result (λ e. Faults e (join_by_walks (document_view document.now) most levels (schema_view first) (schema_view second))) }
+/// How many parts are merged within one another, so that the stack holds.
+pub const LEVELS: u32 = 400;
+
+fn place_of(alloc: Global, schema: &Schema) -> Result<Location, AllocError>
+    ensures { IfOk result (λ l. l ≡ place_of_def (schema_view schema.now)) }
 {
-    let scope = Scope {
-        alloc,
-        document,
-        most,
-    };
-    let left = levels as usize + 1;
-    found(join(&scope, notes, left, first, second))
+    let walk = Side::plain(schema).walk(alloc)?;
+    walk.last(alloc)
 }
 
-/// What is left of the first schema where the second is taken away, in the same way.
-pub fn less_schemas(
-    alloc: Global,
-    document: &Document,
-    most: usize,
-    levels: u32,
-    notes: &mut Vec<MergeNote>,
-    first: Schema,
-    second: Schema,
-) -> Result<Option<Schema>, MergeFault>
-    requires { IsGuarded (document_view document.now) }
-    ensures found { IfOk result (λ o. Steps (notes_view notes.old.items) (notes_view notes.new.items) (less_by_walks (document_view document.now) most levels (schema_view first) (schema_view second)) (option_map schema_view o)) }
-    ensures refused { IfErr result (λ e. Faults e (less_by_walks (document_view document.now) most levels (schema_view first) (schema_view second))) }
+fn place_of_first(alloc: Global, list: &[Schema]) -> Result<Location, AllocError>
+    ensures { IfOk result (λ l. l ≡ place_of_first_def (schemas (schemas_view list.now))) }
 {
-    let scope = Scope {
-        alloc,
-        document,
-        most,
-    };
-    let left = levels as usize + 1;
-    found(less(&scope, notes, left, first, second))
+    match list.first() {
+        None => Ok(Location::root(alloc)),
+        Some(schema) => place_of(alloc, schema),
+    }
 }
 
-/// The merge of several schemas from the left, in the same way; of none it is `true`.
-pub fn merge_schemas(
-    alloc: Global,
-    document: &Document,
-    most: usize,
-    levels: u32,
-    notes: &mut Vec<MergeNote>,
-    list: Vec<Schema>,
-) -> Result<Option<Schema>, MergeFault>
-    requires { IsGuarded (document_view document.now) }
-    ensures found { IfOk result (λ o. Steps (notes_view notes.old.items) (notes_view notes.new.items) (merge_by_walks (document_view document.now) most levels (schemas (schemas_view list.items))) (option_map schema_view o)) }
-    ensures refused { IfErr result (λ e. Faults e (merge_by_walks (document_view document.now) most levels (schemas (schemas_view list.items)))) }
+fn copies(alloc: Global, list: &[Schema]) -> Result<Vec<Schema>, AllocError>
+    ensures { IfOk result (λ v. schemas_view v.items ≡ schemas_view list.now) }
 {
-    let scope = Scope {
-        alloc,
-        document,
-        most,
-    };
-    let left = levels as usize + 1;
-    let Listed { first, rest } = divided(list);
-    found(fold(&scope, notes, left, &None, How::Join, first, rest))
+    let mut copies = Vec::with_capacity(alloc, list.len())?;
+    for schema in list {
+        copies.push(schema.try_clone(alloc)?)?;
+    }
+    Ok(copies)
 }
 
-// The body on its walk, with the subschemas, which stand in it.
-fn with_members(
-    scope: &Scope<'_>,
-    notes: &mut Vec<MergeNote>,
-    left: usize,
-    body: &Schema,
-    subschemas: &Option<Subschemas>,
-) -> Result<Schema, Stop>
-    requires { IsGuarded (document_in scope.now) }
-    ensures { Ends schema_view (notes_view notes.old.items) (notes_view notes.new.items) (with_by_walks (document_in scope.now) scope.now.most left (schema_view body.now) (same_of (option_map subschemas_view subschemas.now))) result }
+fn body_of(alloc: Global, body: &SchemaObject) -> Result<Schema, AllocError>
+    ensures { IfOk result (λ s. schema_view s ≡ object_view body.now) }
 {
-    let side = Side::plain(body);
-    let walk = side.walk(scope.alloc)?;
-    let inside = copy_maybe_subschemas(scope.alloc, &walk, subschemas)?;
-    let open = opened(scope.alloc, &side)?;
-    refuse_subschemas(&inside)?;
-    let walk = Some(walk);
-    let merge = with_same(scope, notes, left, &walk, open, inside)?;
-    let schema = finished(scope.alloc, &walk, merge)?;
-    Ok(schema)
+    let copy = body.try_clone(alloc)?;
+    let boxed = Box::new(alloc, copy)?;
+    Ok(as_schema(boxed))
 }
 
-/// The merge of a body with subschemas that stand in it, in the same way.
-#[tactic(auto, using(crate::proofs::Taken::answers, crate::proofs::Taken::refuses))]
-pub fn with_subschemas(
+fn copy_of(alloc: Global, subschemas: Option<&Subschemas>) -> Result<Option<Subschemas>, AllocError>
+    ensures { IfOk result (λ o. option_map subschemas_view o ≡ option_map (λ s. subschemas_view s.now) subschemas.entry) }
+{
+    match subschemas {
+        None => Ok(None),
+        Some(subschemas) => {
+            let copy = subschemas.try_clone(alloc)?;
+            Ok(Some(copy))
+        }
+    }
+}
+
+/// The merge of several schemas from the left; of none it is `true`. Refused are the first walk that is met with more than `depth` steps (`Depth`), and what isn't merged (`Unsupported`, at the
+/// last place of the first schema's walk). `Memory` comes where memory runs out, or more than 400 parts would be merged within one another.
+pub fn merge_all(
     alloc: Global,
     document: &Document,
-    most: usize,
-    levels: u32,
-    notes: &mut Vec<MergeNote>,
-    body: &Schema,
-    subschemas: &Option<Subschemas>,
-) -> Result<Option<Schema>, MergeFault>
+    depth: u32,
+    list: &[Schema],
+) -> Result<Merged, Fault>
     requires { IsGuarded (document_view document.now) }
-    ensures found { IfOk result (λ o. Steps (notes_view notes.old.items) (notes_view notes.new.items) (with_by_walks (document_view document.now) most levels (schema_view body.now) (same_of (option_map subschemas_view subschemas.now))) (option_map schema_view o)) }
-    ensures refused { IfErr result (λ e. Faults e (with_by_walks (document_view document.now) most levels (schema_view body.now) (same_of (option_map subschemas_view subschemas.now)))) }
+    ensures answered { IfOk result (λ m. merge_all_told (document_view document.now) depth 400 (schemas (schemas_view list.now)) ≡ told_of (merged_view m)) }
+    ensures refused { IfErr result (λ f. Refused (merge_all_told (document_view document.now) depth 400 (schemas (schemas_view list.now))) (fault_view f)) }
 {
-    let scope = Scope {
+    let Ok(place) = place_of_first(alloc, list) else {
+        return Err(Fault::Memory);
+    };
+    let Ok(copies) = copies(alloc, list) else {
+        return Err(Fault::Memory);
+    };
+    let mut notes = Vec::new(alloc);
+    let found = merge_schemas(alloc, document, depth as usize, LEVELS, &mut notes, copies);
+    tell(alloc, place, notes, found)
+}
+
+/// The merge of a body with subschemas that stand in it, in the same way, told at the last place of the body's walk.
+pub fn try_merge_with_subschemas(
+    alloc: Global,
+    document: &Document,
+    depth: u32,
+    body: &SchemaObject,
+    subschemas: Option<&Subschemas>,
+) -> Result<Merged, Fault>
+    requires { IsGuarded (document_view document.now) }
+    ensures answered { IfOk result (λ m. with_subschemas_told (document_view document.now) depth 400 (object_view body.now) (same_of (option_map (λ s. subschemas_view s.now) subschemas.entry)) ≡ told_of (merged_view m)) }
+    ensures refused { IfErr result (λ f. Refused (with_subschemas_told (document_view document.now) depth 400 (object_view body.now) (same_of (option_map (λ s. subschemas_view s.now) subschemas.entry))) (fault_view f)) }
+{
+    let Ok(body) = body_of(alloc, body) else {
+        return Err(Fault::Memory);
+    };
+    let Ok(subschemas) = copy_of(alloc, subschemas) else {
+        return Err(Fault::Memory);
+    };
+    let Ok(place) = place_of(alloc, &body) else {
+        return Err(Fault::Memory);
+    };
+    let mut notes = Vec::new(alloc);
+    let found = with_subschemas(
         alloc,
         document,
-        most,
+        depth as usize,
+        LEVELS,
+        &mut notes,
+        &body,
+        &subschemas,
+    );
+    tell(alloc, place, notes, found)
+}
+
+/// What is left of a schema where another is taken away, in the same way, told at the last place of the first one's walk.
+pub fn subtract(
+    alloc: Global,
+    document: &Document,
+    depth: u32,
+    from: &Schema,
+    less: &Schema,
+) -> Result<Merged, Fault>
+    requires { IsGuarded (document_view document.now) }
+    ensures answered { IfOk result (λ m. subtract_told (document_view document.now) depth 400 (schema_view from.now) (schema_view less.now) ≡ told_of (merged_view m)) }
+    ensures refused { IfErr result (λ f. Refused (subtract_told (document_view document.now) depth 400 (schema_view from.now) (schema_view less.now)) (fault_view f)) }
+{
+    let Ok(place) = place_of(alloc, from) else {
+        return Err(Fault::Memory);
     };
-    let left = levels as usize;
-    found(with_members(&scope, notes, left, body, subschemas))
+    let Ok(first) = from.try_clone(alloc) else {
+        return Err(Fault::Memory);
+    };
+    let Ok(second) = less.try_clone(alloc) else {
+        return Err(Fault::Memory);
+    };
+    let mut notes = Vec::new(alloc);
+    let found = less_schemas(
+        alloc,
+        document,
+        depth as usize,
+        LEVELS,
+        &mut notes,
+        first,
+        second,
+    );
+    tell(alloc, place, notes, found)
 }

@@ -1,170 +1,83 @@
-//! Worked merges and subtractions.
+//! Worked calls.
 ghost use Rattle.schema_defs.specs.Walks.{IsGuarded};
 ghost use Rattle.schema_types.specs.DocumentView.{document_view};
 
-use crate::calls::{join_schemas, less_schemas, merge_schemas, with_subschemas};
-use merge_parts::{MergeKind, MergeNote, Way};
+use crate::calls::{merge_all, subtract, try_merge_with_subschemas};
+use crate::likeness::Roughly;
+use merge_cycle::examples::{flags, is_typed, list_of, lists_false_alone, not_nothing, typed};
 use schema_defs::InstanceType;
-use schema_types::{ArrayValidation, Document, Items, Schema, SchemaObject, Subschemas, Types};
-use serde_json::Value;
+use schema_types::{Document, Schema, SchemaObject, Subschemas};
 use std::alloc::{AllocError, Global};
 
-// ---- schemas
-
-fn object(
-    types: Option<Types>,
-    enum_values: Option<Vec<Value>>,
-    array: Option<ArrayValidation>,
-) -> SchemaObject {
-    SchemaObject {
-        title: None,
-        description: None,
-        default: None,
-        const_value: None,
-        types,
-        format: None,
-        enum_values,
-        subschemas: None,
-        number: None,
-        string: None,
-        array,
-        object: None,
-        reference: None,
-        walk: None,
+fn has_type(found: &Option<Schema>, kind: InstanceType) -> bool {
+    match found {
+        None => false,
+        Some(schema) => is_typed(schema, kind),
     }
 }
 
-/// A schema of one type.
-pub fn typed(alloc: Global, kind: InstanceType) -> Result<Schema, AllocError> {
-    let object = object(Some(Types::One(kind)), None, None);
-    Ok(Schema::Object(Box::new(alloc, object)?))
-}
-
-/// A schema of lists whose items have one type.
-pub fn list_of(alloc: Global, kind: InstanceType) -> Result<Schema, AllocError> {
-    let item = typed(alloc, kind)?;
-    let item = Box::new(alloc, item)?;
-    let array = ArrayValidation {
-        items: Some(Items::One(item)),
-        additional_items: None,
-        contains: None,
-        max_items: None,
-        min_items: None,
-        unique_items: None,
-    };
-    let object = object(None, None, Some(array));
-    Ok(Schema::Object(Box::new(alloc, object)?))
-}
-
-/// A schema that lists `true`, and `false` too where both are wanted.
-pub fn flags(alloc: Global, both: bool) -> Result<Schema, AllocError> {
-    let mut values = Vec::new(alloc);
-    values.push(Value::Bool(true))?;
-    if both {
-        values.push(Value::Bool(false))?;
-    }
-    let object = object(None, Some(values), None);
-    Ok(Schema::Object(Box::new(alloc, object)?))
-}
-
-/// `not` of the schema that admits nothing.
-pub fn not_nothing(alloc: Global) -> Result<Subschemas, AllocError> {
-    let nothing = Box::new(alloc, Schema::Bool(false))?;
-    Ok(Subschemas {
-        all_of: None,
-        any_of: None,
-        one_of: None,
-        not: Some(nothing),
-        conditional: false,
-    })
-}
-
-// ---- what is asked of an answer
-
-/// Whether the schema has that type alone.
-pub fn is_typed(schema: &Schema, kind: InstanceType) -> bool {
-    match schema {
-        Schema::Bool(_) => false,
-        Schema::Object(object) => match &object.types {
-            Some(Types::One(one)) => *one == kind,
-            _ => false,
-        },
+fn is_false_left(found: &Option<Schema>) -> bool {
+    match found {
+        None => false,
+        Some(schema) => lists_false_alone(schema),
     }
 }
 
-/// Whether the schema lists `false` and nothing else.
-pub fn lists_false_alone(schema: &Schema) -> bool {
-    match schema {
-        Schema::Bool(_) => false,
-        Schema::Object(object) => match &object.enum_values {
-            None => false,
-            Some(values) => {
-                let one = values.as_slice();
-                matches!(one, [Value::Bool(false)])
-            }
-        },
-    }
-}
-
-fn is_one_clash(notes: &Vec<MergeNote>) -> bool {
-    match notes.as_slice() {
-        [note] => note.way == Way::Narrowed && note.kind == MergeKind::Clash,
-        _ => false,
-    }
-}
-
-// ---- merges
-
-/// Whether a list of integers and one of texts admit no common list but the empty one, which is lost with a note. It says true.
-pub fn items_clash(alloc: Global, document: &Document) -> Result<bool, AllocError>
+/// Whether a list of integers and one of texts make never, with one note. It says true.
+pub fn a_clash_is_told(alloc: Global, document: &Document) -> Result<bool, AllocError>
     requires { IsGuarded (document_view document.now) }
 {
-    let first = list_of(alloc, InstanceType::Integer)?;
-    let second = list_of(alloc, InstanceType::Text)?;
-    let mut notes = Vec::new(alloc);
-    match join_schemas(alloc, document, 8, 24, &mut notes, first, second) {
-        Ok(None) => Ok(is_one_clash(&notes)),
-        _ => Ok(false),
+    let mut list = Vec::new(alloc);
+    list.push(list_of(alloc, InstanceType::Integer)?)?;
+    list.push(list_of(alloc, InstanceType::Text)?)?;
+    match merge_all(alloc, document, 8, list.as_slice()) {
+        Ok(merged) => Ok(merged.schema.is_none() && merged.notes.len() == 1),
+        Err(_) => Ok(false),
     }
 }
 
-/// Whether integers, anything and integers are integers. It says true.
-pub fn integers_are_left(alloc: Global, document: &Document) -> Result<bool, AllocError>
+fn stay_texts(
+    alloc: Global,
+    document: &Document,
+    body: &SchemaObject,
+    subschemas: &Subschemas,
+) -> Result<bool, AllocError>
     requires { IsGuarded (document_view document.now) }
 {
-    let mut schemas = Vec::new(alloc);
-    schemas.push(typed(alloc, InstanceType::Integer)?)?;
-    schemas.push(Schema::Bool(true))?;
-    schemas.push(typed(alloc, InstanceType::Integer)?)?;
-    let mut notes = Vec::new(alloc);
-    match merge_schemas(alloc, document, 8, 24, &mut notes, schemas) {
-        Ok(Some(schema)) => Ok(is_typed(&schema, InstanceType::Integer) && notes.is_empty()),
-        _ => Ok(false),
+    match try_merge_with_subschemas(alloc, document, 8, body, Some(subschemas)) {
+        Ok(merged) => Ok(has_type(&merged.schema, InstanceType::Text) && merged.notes.is_empty()),
+        Err(_) => Ok(false),
     }
 }
 
-/// Whether texts stay where nothing is taken away by `not`. It says true.
-pub fn texts_stay(alloc: Global, document: &Document) -> Result<bool, AllocError>
+/// Whether texts without the schema that admits nothing are texts. It says true.
+pub fn texts_are_told(alloc: Global, document: &Document) -> Result<bool, AllocError>
     requires { IsGuarded (document_view document.now) }
 {
     let body = typed(alloc, InstanceType::Text)?;
-    let subschemas = Some(not_nothing(alloc)?);
-    let mut notes = Vec::new(alloc);
-    match with_subschemas(alloc, document, 8, 24, &mut notes, &body, &subschemas) {
-        Ok(Some(schema)) => Ok(is_typed(&schema, InstanceType::Text) && notes.is_empty()),
-        _ => Ok(false),
+    let subschemas = not_nothing(alloc)?;
+    match &body {
+        Schema::Bool(_) => Ok(false),
+        Schema::Object(body) => stay_texts(alloc, document, body, &subschemas),
     }
 }
 
 /// Whether of two listed values the one that is taken away goes. It says true.
-pub fn one_value_is_left(alloc: Global, document: &Document) -> Result<bool, AllocError>
+pub fn one_value_is_told(alloc: Global, document: &Document) -> Result<bool, AllocError>
     requires { IsGuarded (document_view document.now) }
 {
-    let first = flags(alloc, true)?;
-    let second = flags(alloc, false)?;
-    let mut notes = Vec::new(alloc);
-    match less_schemas(alloc, document, 8, 24, &mut notes, first, second) {
-        Ok(Some(schema)) => Ok(lists_false_alone(&schema) && notes.is_empty()),
-        _ => Ok(false),
+    let from = flags(alloc, true)?;
+    let less = flags(alloc, false)?;
+    match subtract(alloc, document, 8, &from, &less) {
+        Ok(merged) => Ok(is_false_left(&merged.schema) && merged.notes.is_empty()),
+        Err(_) => Ok(false),
     }
+}
+
+/// Whether texts are roughly texts, and no list of them. It says true.
+pub fn texts_are_roughly_texts(alloc: Global) -> Result<bool, AllocError> {
+    let one = typed(alloc, InstanceType::Text)?;
+    let other = typed(alloc, InstanceType::Text)?;
+    let list = list_of(alloc, InstanceType::Text)?;
+    Ok(one.roughly(&other) && !one.roughly(&list))
 }

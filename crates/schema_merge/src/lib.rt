@@ -1,11 +1,15 @@
-//! Merges and subtractions of schemas by walks.
+//! Merges and subtractions as a caller asks for them: notes with their places, and schemas whose walks carry no marks.
 #![tactic(auto)]
 
-mod apart;
 mod calls;
-mod cycle;
 pub mod examples;
-mod how;
-mod outside;
+mod faults;
+mod likeness;
+mod ordering;
+mod telling;
+mod told;
+mod unmark;
 
-pub use calls::{join_schemas, less_schemas, merge_schemas, with_subschemas};
+pub use calls::{LEVELS, merge_all, subtract, try_merge_with_subschemas};
+pub use likeness::Roughly;
+pub use told::{Merged, PlacedNote};

@@ -3,12 +3,12 @@ ghost use Rattle.std.specs.Prelude.{◌≡◌, IfOk, drop, option_map};
 ghost use Rattle.schema_defs.specs.Texts.{Relations};
 ghost use Rattle.schema_tree.specs.Document.{view as document_seen};
 ghost use Rattle.type_rows.specs.Line.{first_found, held_view};
-ghost use Rattle.row_types.specs.Given.{plain_view, same_view, lists_view, named_view};
+ghost use Rattle.row_findings.specs.Given.{plain_view, same_view, lists_view, named_view};
 ghost use Rattle.schema_rows.specs.Runs.{fourth_lines};
 
 use crate::several::subschema_line;
 use line_rows::listed_line;
-use row_types::{Finding, Keywords};
+use row_findings::{Finding, Keywords};
 use schema_tree::Document;
 use std::alloc::{AllocError, Global};
 use type_rows::{allowed_line, reference_of_type_line, reference_with_others_line};

@@ -6,11 +6,11 @@ ghost use Rattle.convert_defs.specs.Row.{add_notes, here, widened, type_note};
 ghost use Rattle.convert_defs.specs.IntegerRow.{note_if};
 ghost use Rattle.convert_defs.specs.Scalars.{wanted_of};
 ghost use Rattle.convert_defs.specs.Table.{subschema_finding as subschema_finding_of, finding_or, no_others as no_others_of};
-ghost use Rattle.row_types.specs.Given.{plain_view, same_view, lists_view, named_view};
-ghost use Rattle.row_types.specs.View.{note_view, finding_view};
+ghost use Rattle.row_findings.specs.Given.{plain_view, same_view, lists_view, named_view};
+ghost use Rattle.row_findings.specs.View.{note_view, finding_view};
 ghost use Rattle.type_rows.specs.Line.{held_view, line};
 
-use row_types::{Finding, Keywords, Note, NoteKind, Way, no_others, with_note};
+use row_findings::{Finding, Keywords, Note, NoteKind, Way, no_others, with_note};
 use schema_tree::Document;
 use std::alloc::{AllocError, Global};
 use subschema_rows::subschema_finding;

@@ -5,14 +5,14 @@ ghost use Rattle.schema_defs.specs.Texts.{Relations};
 ghost use Rattle.schema_tree.specs.Document.{view as document_seen};
 ghost use Rattle.schema_types.specs.View.{schema_view, object_view};
 ghost use Rattle.convert_defs.specs.Table.{finding_of};
-ghost use Rattle.row_types.specs.Given.{plain_view, same_view, lists_view, named_view, source_view};
-ghost use Rattle.row_types.specs.View.{finding_view};
+ghost use Rattle.row_findings.specs.Given.{plain_view, same_view, lists_view, named_view, source_view};
+ghost use Rattle.row_findings.specs.View.{finding_view};
 ghost use Rattle.type_rows.specs.Line.{held_view};
 ghost use Rattle.schema_rows.specs.Runs.{by_runs, after_first, after_second, after_third, after_fourth};
 
 use crate::fourth::fourth_run;
 use line_rows::{first_run, last_run, second_run, third_run};
-use row_types::{Cause, Finding, Keywords, Leaf, Row, Source, keywords_of, plainly, refused};
+use row_findings::{Cause, Finding, Keywords, Leaf, Row, Source, keywords_of, plainly, refused};
 use schema_tree::{Document, Schema};
 use schema_types::SchemaObject;
 use std::alloc::{AllocError, Global};

@@ -3,19 +3,19 @@ use Rattle.std.proofs.Common.{◌≡◌, ℕ, List, [], ◌∷◌, map, Bool, Op
 use Rattle.std.specs.List.{slice_get}
 use Rattle.entry_defs.specs.Entry.{Target, Entry, no_fields, rest_field, struct_contents, tuple_contents}
 use Rattle.entry_defs.specs.Space.{Id, any_at, FieldAt, tuple_at, struct_at, VariantAt, struct_shape_at, enum_shape_at, map_at, tuple_entry_at, Space}
-use Rattle.row_types.specs.View.{tag_view}
-use Rattle.row_types.specs.declared.row.TagRow.{TagRow}
-use Rattle.entry_trees.specs.declared.tree.Label.{Label}
-use Rattle.entry_trees.specs.declared.tree.Atom.{Atom}
-use Rattle.entry_trees.specs.declared.tree.Atom.TheVariants as atoms
-use Rattle.entry_trees.specs.declared.tree.Wrap.{Wrap}
-use Rattle.entry_trees.specs.declared.tree.Wrap.TheVariants as wraps
-use Rattle.entry_trees.specs.declared.tree.FieldHead.{FieldHead}
-use Rattle.entry_trees.specs.declared.tree.VariantHead.{VariantHead}
-use Rattle.entry_trees.specs.declared.tree.Tree.{Tree}
-use Rattle.entry_trees.specs.declared.tree.Tree.TheVariants as trees
-use Rattle.entry_trees.specs.View.{atom_view, label_view, first_part, wrapped, places_view, fields_view, variants_view, tree_view, parts_of}
-use Rattle.entry_trees.proofs.Seen.{atom_seen, one_seen, map_seen, tuple_seen, struct_seen, enum_seen}
+use Rattle.row_findings.specs.View.{tag_view}
+use Rattle.row_findings.specs.declared.row.TagRow.{TagRow}
+use Rattle.tree_types.specs.declared.tree.Label.{Label}
+use Rattle.tree_types.specs.declared.tree.Atom.{Atom}
+use Rattle.tree_types.specs.declared.tree.Atom.TheVariants as atoms
+use Rattle.tree_types.specs.declared.tree.Wrap.{Wrap}
+use Rattle.tree_types.specs.declared.tree.Wrap.TheVariants as wraps
+use Rattle.tree_types.specs.declared.tree.FieldHead.{FieldHead}
+use Rattle.tree_types.specs.declared.tree.VariantHead.{VariantHead}
+use Rattle.tree_types.specs.declared.tree.Tree.{Tree}
+use Rattle.tree_types.specs.declared.tree.Tree.TheVariants as trees
+use Rattle.tree_types.specs.View.{atom_view, label_view, first_part, wrapped, places_view, fields_view, variants_view, tree_view, parts_of}
+use Rattle.tree_types.proofs.Seen.{atom_seen, one_seen, map_seen, tuple_seen, struct_seen, enum_seen}
 use Rattle.space_trees.specs.Placed.{put, opened_at, rest_given, placed, placed_entries, placed_fields, placed_variants, placed_contents}
 use Rattle.space_trees.specs.Parts.{tree_seen, case_seen, placed_parts, trees_in, resolved, fields_at, struct_given, struct_filled, wrap_opened, wrap_closed}
 use Rattle.space_trees.proofs.PartSteps.{places_placed, fields_placed}

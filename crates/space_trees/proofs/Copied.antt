@@ -11,8 +11,8 @@ use Rattle.json_value.specs.Value.{Value}
 use Rattle.model_defs.specs.Layer.{is_null}
 use Rattle.schema_types.specs.View.{kept_view}
 use Rattle.convert_defs.specs.Scalars.{non_null}
-use Rattle.row_types.specs.declared.given.GivenValues.{GivenValues}
-use Rattle.row_types.specs.Given.{given_values_view}
+use Rattle.row_findings.specs.declared.given.GivenValues.{GivenValues}
+use Rattle.row_findings.specs.Given.{given_values_view}
 
 pub null_seen : (d : Data) → is_null (value_of d) ≡ is_some (as_null d)
 null_seen data'.null = refl

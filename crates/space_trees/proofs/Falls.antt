@@ -1,13 +1,13 @@
--- What the walk over a tree goes down to is smaller: the sizes of entry_trees, as the walk asks.
+-- What the walk over a tree goes down to is smaller: the sizes of tree_types, as the walk asks.
 use Rattle.std.proofs.Common.{◌≡◌, ◌<◌, ◌+◌, ℕ, List, length, get_or, slice_get, Bool, Option, Some, Box, Vec, Global, arith, sym, ap, ◌∙◌}
-use Rattle.entry_trees.specs.declared.tree.Label.{Label}
-use Rattle.entry_trees.specs.declared.tree.Wrap.{Wrap}
-use Rattle.entry_trees.specs.declared.tree.FieldHead.{FieldHead}
-use Rattle.entry_trees.specs.declared.tree.VariantHead.{VariantHead}
-use Rattle.entry_trees.specs.declared.tree.Tree.{Tree}
-use Rattle.entry_trees.specs.declared.tree.Tree.TheVariants as trees
-use Rattle.entry_trees.proofs.Sizes.{tree_size, part_size, parts_size, case_size, cases_size, rest_size, tree_in_part, box_in_rest, part_in_parts, front_in_parts, case_in_cases}
-use Rattle.entry_trees.proofs.Sizes.{one_falls as one_is_smaller, keys_fall as keys_are_smaller, values_fall as values_are_smaller, rest_falls as rest_is_smaller}
+use Rattle.tree_types.specs.declared.tree.Label.{Label}
+use Rattle.tree_types.specs.declared.tree.Wrap.{Wrap}
+use Rattle.tree_types.specs.declared.tree.FieldHead.{FieldHead}
+use Rattle.tree_types.specs.declared.tree.VariantHead.{VariantHead}
+use Rattle.tree_types.specs.declared.tree.Tree.{Tree}
+use Rattle.tree_types.specs.declared.tree.Tree.TheVariants as trees
+use Rattle.tree_types.proofs.Sizes.{tree_size, part_size, parts_size, case_size, cases_size, rest_size, tree_in_part, box_in_rest, part_in_parts, front_in_parts, case_in_cases}
+use Rattle.tree_types.proofs.Sizes.{one_falls as one_is_smaller, keys_fall as keys_are_smaller, values_fall as values_are_smaller, rest_falls as rest_is_smaller}
 
 pub one_falls : (x : Tree) (w : Wrap) (b : Box Tree Global) → x ≡ trees.One w b → tree_size b.value < tree_size x
 one_falls x w b e = let h = one_is_smaller x w b e in omega (arith, h)

@@ -7,13 +7,13 @@ use Rattle.naming_defs.specs.Names.{name_by}
 use Rattle.entry_types.specs.declared.entry.TypeId.{TypeId}
 use Rattle.entry_types.specs.View.{id_view, rest_at}
 use Rattle.entry_space.specs.Entered.{filled}
-use Rattle.entry_trees.specs.declared.tree.Label.{Label}
-use Rattle.entry_trees.specs.declared.tree.TreeRule.{TreeRule}
-use Rattle.entry_trees.specs.declared.tree.Wrap.TheVariants as wraps
-use Rattle.entry_trees.specs.declared.tree.FieldHead.{FieldHead}
-use Rattle.entry_trees.specs.declared.tree.VariantHead.{VariantHead}
-use Rattle.entry_trees.specs.declared.tree.Tree.{Tree}
-use Rattle.entry_trees.specs.View.{Parts, label_view, rule_view, contents_view, tree_view}
+use Rattle.tree_types.specs.declared.tree.Label.{Label}
+use Rattle.tree_types.specs.declared.tree.TreeRule.{TreeRule}
+use Rattle.tree_types.specs.declared.tree.Wrap.TheVariants as wraps
+use Rattle.tree_types.specs.declared.tree.FieldHead.{FieldHead}
+use Rattle.tree_types.specs.declared.tree.VariantHead.{VariantHead}
+use Rattle.tree_types.specs.declared.tree.Tree.{Tree}
+use Rattle.tree_types.specs.View.{Parts, label_view, rule_view, contents_view, tree_view}
 use Rattle.space_trees.specs.Placed.{opened_at, rest_or_first, rest_given, placed_contents}
 use Rattle.space_trees.specs.Parts.{part_seen, part_state, placed_variant, resolved, field_at, fields_at, struct_given, struct_filled, wrap_opened, wrap_closed}
 use Rattle.space_trees.proofs.PartSteps.{rest_seen}

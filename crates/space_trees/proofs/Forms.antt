@@ -1,18 +1,18 @@
 -- What is asked of a tree by its form: whether it is an item, its name, and where it leads.
 use Rattle.std.proofs.Common.{◌≡◌, ℕ, List, [], Bool, true, false, Option, None, Box, Vec, Global, refl, sym, ap, ◌∙◌}
 use Rattle.entry_defs.specs.Entry.{Target, Entry}
-use Rattle.row_types.specs.declared.row.TagRow.{TagRow}
-use Rattle.entry_trees.specs.declared.tree.Label.{Label}
-use Rattle.entry_trees.specs.declared.tree.Atom.{Atom}
-use Rattle.entry_trees.specs.declared.tree.Atom.TheVariants as atoms
-use Rattle.entry_trees.specs.declared.tree.Wrap.{Wrap}
-use Rattle.entry_trees.specs.declared.tree.Wrap.TheVariants as wraps
-use Rattle.entry_trees.specs.declared.tree.FieldHead.{FieldHead}
-use Rattle.entry_trees.specs.declared.tree.VariantHead.{VariantHead}
-use Rattle.entry_trees.specs.declared.tree.Tree.{Tree}
-use Rattle.entry_trees.specs.declared.tree.Tree.TheVariants as trees
-use Rattle.entry_trees.specs.View.{label_view, atom_view, wrapped, tree_view}
-use Rattle.entry_trees.proofs.Seen.{atom_seen, one_seen, map_seen, tuple_seen, struct_seen, enum_seen}
+use Rattle.row_findings.specs.declared.row.TagRow.{TagRow}
+use Rattle.tree_types.specs.declared.tree.Label.{Label}
+use Rattle.tree_types.specs.declared.tree.Atom.{Atom}
+use Rattle.tree_types.specs.declared.tree.Atom.TheVariants as atoms
+use Rattle.tree_types.specs.declared.tree.Wrap.{Wrap}
+use Rattle.tree_types.specs.declared.tree.Wrap.TheVariants as wraps
+use Rattle.tree_types.specs.declared.tree.FieldHead.{FieldHead}
+use Rattle.tree_types.specs.declared.tree.VariantHead.{VariantHead}
+use Rattle.tree_types.specs.declared.tree.Tree.{Tree}
+use Rattle.tree_types.specs.declared.tree.Tree.TheVariants as trees
+use Rattle.tree_types.specs.View.{label_view, atom_view, wrapped, tree_view}
+use Rattle.tree_types.proofs.Seen.{atom_seen, one_seen, map_seen, tuple_seen, struct_seen, enum_seen}
 use Rattle.space_trees.specs.Parts.{is_item_entry, is_newtype_wrap, wrap_name, name_in, reference_in}
 
 -- ---- items

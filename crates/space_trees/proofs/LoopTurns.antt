@@ -9,11 +9,11 @@ use Rattle.entry_types.specs.declared.entry.TypeId.{TypeId}
 use Rattle.entry_types.specs.declared.item.FieldEntry.{FieldEntry}
 use Rattle.entry_types.specs.declared.item.VariantEntry.{VariantEntry}
 use Rattle.entry_types.specs.View.{id_view, field_view, variant_view}
-use Rattle.entry_trees.specs.declared.tree.Target.{Target as TreeTarget}
-use Rattle.entry_trees.specs.declared.tree.FieldHead.{FieldHead}
-use Rattle.entry_trees.specs.declared.tree.VariantHead.{VariantHead}
-use Rattle.entry_trees.specs.declared.tree.Tree.{Tree}
-use Rattle.entry_trees.specs.View.{Parts, variants_view, tree_view, parts_of, item_in, item_entry, target_view, target_entry}
+use Rattle.tree_types.specs.declared.tree.Target.{Target as TreeTarget}
+use Rattle.tree_types.specs.declared.tree.FieldHead.{FieldHead}
+use Rattle.tree_types.specs.declared.tree.VariantHead.{VariantHead}
+use Rattle.tree_types.specs.declared.tree.Tree.{Tree}
+use Rattle.tree_types.specs.View.{Parts, variants_view, tree_view, parts_of, item_in, item_entry, target_view, target_entry}
 use Rattle.space_trees.specs.Placed.{opened, placed, placed_variants}
 use Rattle.space_trees.specs.declared.led.Led.{Led}
 use Rattle.space_trees.specs.Leading.{found_led, or_led, led_once}

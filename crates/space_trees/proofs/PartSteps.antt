@@ -5,7 +5,7 @@ use Rattle.entry_defs.specs.Entry.{Target, Fields}
 use Rattle.entry_defs.specs.Space.{Id, FieldAt, Space}
 use Rattle.entry_types.specs.declared.entry.TypeId.{TypeId}
 use Rattle.entry_types.specs.View.{id_view, rest_at}
-use Rattle.entry_trees.specs.View.{Parts, places_view, fields_view}
+use Rattle.tree_types.specs.View.{Parts, places_view, fields_view}
 use Rattle.space_trees.specs.Placed.{rest_or_first, following, following_field, rest_given, placed, placed_entries, placed_fields}
 use Rattle.space_trees.specs.Parts.{placed_parts, trees_in, following_or, resolved, times, field_at, fields_at, struct_given}
 

@@ -15,7 +15,7 @@ use Rattle.entry_defs.specs.Entry.{Target, the_root, definition, Entry, referenc
 use Rattle.entry_defs.specs.Space.{Id, newtype_shape_at, reference_at, Space}
 use Rattle.entry_defs.specs.Table.{TargetEntry, Table, same_target}
 use Rattle.entry_space.specs.Entered.{filled}
-use Rattle.entry_trees.specs.View.{item_in, item_entry}
+use Rattle.tree_types.specs.View.{item_in, item_entry}
 use Rattle.space_trees.specs.Placed.{put, rest_or_first, placed}
 use Rattle.space_trees.specs.Filled.{led_from, ids_in, opened_targets, filled_targets, placed_targets, placed_tree, placed_rest, placed_trees, placed_table}
 use Rattle.space_trees.specs.Leading.{found_led, ids_of, or_led, led_once}

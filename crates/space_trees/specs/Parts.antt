@@ -6,14 +6,14 @@ use Rattle.naming_defs.specs.Names.{name_by}
 use Rattle.entry_defs.specs.Entry.{Target, State, required, Entry, reference, item}
 use Rattle.entry_defs.specs.Space.{Id, FieldAt, ContentsAt, ShapeAt, newtype_shape_at, VariantAt, option_at, vec_at, set_at, array_at, Space}
 use Rattle.model_defs.specs.Model.{TagModel}
-use Rattle.row_types.specs.View.{state_view}
+use Rattle.row_findings.specs.View.{state_view}
 use Rattle.entry_space.specs.Entered.{filled}
-use Rattle.entry_trees.specs.declared.tree.FieldHead.{FieldHead}
-use Rattle.entry_trees.specs.declared.tree.Wrap.{Wrap}
-use Rattle.entry_trees.specs.declared.tree.Wrap.TheVariants as wraps
-use Rattle.entry_trees.specs.declared.tree.VariantHead.{VariantHead}
-use Rattle.entry_trees.specs.declared.tree.Tree.{Tree}
-use Rattle.entry_trees.specs.View.{label_view, rule_view, Parts, contents_view, tree_view, parts_of, item_in}
+use Rattle.tree_types.specs.declared.tree.FieldHead.{FieldHead}
+use Rattle.tree_types.specs.declared.tree.Wrap.{Wrap}
+use Rattle.tree_types.specs.declared.tree.Wrap.TheVariants as wraps
+use Rattle.tree_types.specs.declared.tree.VariantHead.{VariantHead}
+use Rattle.tree_types.specs.declared.tree.Tree.{Tree}
+use Rattle.tree_types.specs.View.{label_view, rule_view, Parts, contents_view, tree_view, parts_of, item_in}
 use Rattle.space_trees.specs.Placed.{put, opened_at, rest_or_first, placed, placed_contents}
 
 abbrev pub variant_of : TagModel → VariantHead × Parts → ContentsAt → VariantAt

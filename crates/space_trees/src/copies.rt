@@ -7,19 +7,19 @@ ghost use Rattle.naming_defs.specs.Names.{name_by};
 ghost use Rattle.convert_defs.specs.Scalars.{non_null};
 ghost use Rattle.convert_defs.specs.Owners.{pattern_names};
 ghost use Rattle.entry_types.specs.View.{tag_view as tag_seen, state_view as state_seen};
-ghost use Rattle.row_types.specs.Given.{given_values_view};
-ghost use Rattle.row_types.specs.View.{tag_view, state_view};
-ghost use Rattle.entry_trees.specs.View.{label_view, rule_view};
+ghost use Rattle.row_findings.specs.Given.{given_values_view};
+ghost use Rattle.row_findings.specs.View.{tag_view, state_view};
+ghost use Rattle.tree_types.specs.View.{label_view, rule_view};
 
 use attr_parts::TagType;
 use entry_space::State;
-use entry_trees::{Label, TreeRule};
-use row_types::{FieldState, GivenValues, TagRow};
+use row_findings::{FieldState, GivenValues, TagRow};
 use schema_tree::Rule;
 use schema_types::{Schema, copy_list_of_texts, copy_list_of_values};
 use serde_json::Value;
 use std::alloc::{AllocError, Global};
 use std::collections::BTreeMap;
+use tree_types::{Label, TreeRule};
 
 /// The name that is given, or else the wanted one.
 pub(crate) fn label_text<'t>(label: &'t Label<'_>) -> &'t str

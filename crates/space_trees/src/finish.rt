@@ -3,17 +3,17 @@ ghost use Rattle.std.specs.Prelude.{◌≡◌, ◌++◌, IfOk, OnOk, map, option
 ghost use Rattle.entry_defs.specs.Space.{struct_shape_at, enum_shape_at};
 ghost use Rattle.entry_types.specs.View.{id_view, state_view as state_seen, field_view, variant_view};
 ghost use Rattle.entry_space.specs.Seen.{seen};
-ghost use Rattle.row_types.specs.View.{tag_view};
-ghost use Rattle.entry_trees.specs.View.{tree_view, parts_of};
+ghost use Rattle.row_findings.specs.View.{tag_view};
+ghost use Rattle.tree_types.specs.View.{tree_view, parts_of};
 ghost use Rattle.space_trees.specs.Placed.{rest_or_first, rest_given};
 ghost use Rattle.space_trees.specs.Parts.{part_seen, part_state, resolved, times, field_at, fields_at, struct_given, struct_filled, wrap_opened, wrap_closed};
 
 use crate::copies::{copy_rules, copy_state, copy_tag, label_text};
 use crate::entering::{open_at, put};
 use entry_space::{EntrySpace, FieldEntry, ItemShape, State, TypeEntry, TypeId, VariantEntry};
-use entry_trees::{FieldHead, Tree, Wrap};
-use row_types::TagRow;
+use row_findings::TagRow;
 use std::alloc::{AllocError, Global};
+use tree_types::{FieldHead, Tree, Wrap};
 
 // The id so many times more.
 #[tactic(auto, using(crate::proofs::PartSteps::one_more_time))]

@@ -3,14 +3,14 @@ ghost use Rattle.std.specs.Prelude.{◌≡◌, ℕ, List, IfOk, OnOk, Some, None
 ghost use Rattle.std.specs.BTreeMap.{get_by_text};
 ghost use Rattle.entry_defs.specs.Entry.{Target as TargetD};
 ghost use Rattle.entry_types.specs.View.{id_view};
-ghost use Rattle.entry_trees.specs.View.{target_view, target_entry};
+ghost use Rattle.tree_types.specs.View.{target_view, target_entry};
 ghost use Rattle.space_trees.specs.Filled.{led_from};
 ghost use Rattle.space_trees.specs.Leading.{found_led, or_led, led_once};
 
 use entry_space::TypeId;
-use entry_trees::{Target, Tree};
 use std::alloc::{AllocError, Global};
 use std::collections::BTreeMap;
+use tree_types::{Target, Tree};
 
 /// The places of targets, which are the ids of their items.
 #[derive(Drop)]

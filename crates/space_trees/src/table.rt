@@ -10,7 +10,7 @@ ghost use Rattle.space_defs.specs.Held.{HoldsTable, Stands};
 ghost use Rattle.entry_types.specs.View.{id_view};
 ghost use Rattle.entry_space.specs.Keys.{same_key};
 ghost use Rattle.entry_space.specs.Seen.{seen};
-ghost use Rattle.entry_trees.specs.View.{target_view, target_entry, atom_view, tree_view, item_in, item_entry, table_view};
+ghost use Rattle.tree_types.specs.View.{target_view, target_entry, atom_view, tree_view, item_in, item_entry, table_view};
 ghost use Rattle.space_trees.specs.Placed.{placed};
 ghost use Rattle.space_trees.specs.Filled.{leads_in, led_from, opened_targets, filled_targets, placed_targets, placed_tree, placed_rest, placed_trees, placed_table};
 ghost use Rattle.space_trees.specs.Formed.{IsFormed};
@@ -22,9 +22,9 @@ use crate::entering::{open_item, put};
 use crate::led::{Led, led_by, led_to};
 use crate::trees::place_tree;
 use entry_space::{EntrySpace, ItemShape, TypeEntry, TypeId};
-use entry_trees::{Atom, Target, Tree, TreeTable, Wrap};
 use space_defs::laws::spaces_emit_tables;
 use std::alloc::{AllocError, Global};
+use tree_types::{Atom, Target, Tree, TreeTable, Wrap};
 
 /// A space that holds a table of trees.
 #[derive(Drop)]

@@ -3,8 +3,8 @@ ghost use Rattle.std.specs.Prelude.{◌≡◌, None, IfOk, map, option_map};
 ghost use Rattle.entry_defs.specs.Entry.{reference};
 ghost use Rattle.entry_types.specs.View.{id_view, content_view, variant_view};
 ghost use Rattle.entry_space.specs.Seen.{seen};
-ghost use Rattle.row_types.specs.View.{tag_view};
-ghost use Rattle.entry_trees.specs.View.{target_view, atom_view, first_part, contents_view, variants_view, tree_view, parts_of};
+ghost use Rattle.row_findings.specs.View.{tag_view};
+ghost use Rattle.tree_types.specs.View.{target_view, atom_view, first_part, contents_view, variants_view, tree_view, parts_of};
 ghost use Rattle.space_trees.specs.Placed.{placed, placed_contents, placed_variants};
 ghost use Rattle.space_trees.specs.Leading.{ids_of};
 ghost use Rattle.space_trees.specs.Parts.{placed_parts, placed_variant, tree_seen, case_seen};
@@ -14,9 +14,9 @@ use crate::entering::{open_at, put};
 use crate::finish::{close_wrap, field_entries, fill_enum, fill_struct, open_wrap, resolve_ids};
 use crate::led::{Led, led_to};
 use entry_space::{Content, EntrySpace, TypeEntry, TypeId, VariantEntry};
-use entry_trees::{Atom, ContentKind, FieldHead, Target, Tree, VariantHead};
-use row_types::TagRow;
+use row_findings::TagRow;
 use std::alloc::{AllocError, Global};
+use tree_types::{Atom, ContentKind, FieldHead, Target, Tree, VariantHead};
 
 #[tactic(auto, using(crate::proofs::Steps::reference_placed))]
 fn place_reference(space: &mut EntrySpace, led: &Led, target: &Target) -> Result<TypeId, AllocError>
@@ -68,7 +68,7 @@ fn place_atom(space: &mut EntrySpace, led: &Led, atom: &Atom) -> Result<TypeId, 
 
 /// Enters a tree, its parts before it, and answers its id; an item may have been opened before. Fails only for want of memory, or of an
 /// id, and where a reference leads nowhere.
-#[tactic(auto, using(crate::proofs::Arms::atom_arm, crate::proofs::Arms::map_arm, crate::proofs::Arms::one_arm, crate::proofs::Arms::tuple_arm, crate::proofs::Falls::one_falls, crate::proofs::Falls::keys_fall, crate::proofs::Falls::values_fall, entry_trees::proofs::Sizes::tuple_falls, entry_trees::proofs::Sizes::fields_fall, crate::proofs::Falls::rest_falls, entry_trees::proofs::Sizes::variants_fall))]
+#[tactic(auto, using(crate::proofs::Arms::atom_arm, crate::proofs::Arms::map_arm, crate::proofs::Arms::one_arm, crate::proofs::Arms::tuple_arm, crate::proofs::Falls::one_falls, crate::proofs::Falls::keys_fall, crate::proofs::Falls::values_fall, tree_types::proofs::Sizes::tuple_falls, tree_types::proofs::Sizes::fields_fall, crate::proofs::Falls::rest_falls, tree_types::proofs::Sizes::variants_fall))]
 #[cycle(placing)]
 pub fn place_tree(
     space: &mut EntrySpace,

@@ -10,7 +10,7 @@ use Rattle.schema_types.specs.declared.schema.Subschemas.{Subschemas, out-Subsch
 use Rattle.convert_defs.specs.Row.{Finding}
 use Rattle.convert_defs.specs.Shapes.{members_from}
 use Rattle.convert_defs.specs.Table.{all_of_finding, any_of_finding, one_of_finding}
-use Rattle.row_types.proofs.Seen.{seen}
+use Rattle.row_findings.proofs.Seen.{seen}
 use Rattle.subschema_rows.specs.Only.{by_all, by_any, by_one, by_not, is_missing, is_absent}
 
 list_mapped : (o : Option (Vec Schema Global)) → maybe_list (option_map (λ v. v.items) (former-Subschemas-all_of.map Schema defs.Schema schema_view o)) ≡ maybe_list_view (option_map (λ v. v.items) o)

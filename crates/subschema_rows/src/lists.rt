@@ -6,14 +6,14 @@ ghost use Rattle.schema_types.specs.View.{schemas_view};
 ghost use Rattle.convert_defs.specs.Standing.{words_or};
 ghost use Rattle.convert_defs.specs.Shapes.{schemas_of, option_member as option_member_of};
 ghost use Rattle.convert_defs.specs.Table.{all_of_finding as all_of_finding_of, any_of_finding as any_of_finding_of, any_of_others as any_of_others_of};
-ghost use Rattle.row_types.specs.View.{finding_view};
+ghost use Rattle.row_findings.specs.View.{finding_view};
 ghost use Rattle.member_rows.specs.Members.{member_view};
 
 use member_rows::{
     Member, child_part, child_parts, has_odd_null, lone_part, only_member, option_member,
 };
 use one_of_rows::{is_exclusive, one_of_finding, untagged_row};
-use row_types::{Finding, Leaf, NoteKind, Row, Way, noted, plainly, with_note};
+use row_findings::{Finding, Leaf, NoteKind, Row, Way, noted, plainly, with_note};
 use schema_tree::{Document, Schema};
 use std::alloc::{AllocError, Global};
 

@@ -8,15 +8,15 @@ ghost use Rattle.convert_defs.specs.Standing.{words_or};
 ghost use Rattle.convert_defs.specs.Scalars.{wanted_of};
 ghost use Rattle.convert_defs.specs.Shapes.{members_from};
 ghost use Rattle.convert_defs.specs.Table.{subschema_finding as subschema_finding_of, all_of_finding as all_of_finding_of, any_of_finding as any_of_finding_of, one_of_finding as one_of_finding_of};
-ghost use Rattle.row_types.specs.Given.{plain_view, same_view};
-ghost use Rattle.row_types.specs.View.{finding_view};
+ghost use Rattle.row_findings.specs.Given.{plain_view, same_view};
+ghost use Rattle.row_findings.specs.View.{finding_view};
 ghost use Rattle.subschema_rows.specs.Only.{by_all, by_any, by_one, by_not, all_in, any_in, one_in, none_in, is_missing, is_absent, conditional_in};
 
 use crate::lists::{all_of_finding, any_of_finding};
 use denied_rows::not_finding;
 use member_rows::members_in;
 use one_of_rows::one_of_finding;
-use row_types::{Finding, Keyword, Keywords};
+use row_findings::{Finding, Keyword, Keywords};
 use schema_tree::{Document, Schema, Subschemas};
 use std::alloc::{AllocError, Global};
 

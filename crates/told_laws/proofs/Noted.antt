@@ -10,7 +10,7 @@ use Rattle.schema_defs.specs.Location.{Location}
 use Rattle.enum_defs.proofs.Tests.{and_left, and_right, impossible, first, second}
 use Rattle.merge_defs.specs.Outcome.{Way, narrowed, widened, same_way, Kind, of_integer, of_names, of_reference, of_formats, of_clash, of_members, of_subtract, of_absent, Note, note_if}
 use Rattle.merge_walks.specs.Told.{PlacedNote, note_at}
-use Rattle.merge_told.specs.Ordered.{number, is_noted, of_kinds, kinds, ordered_notes}
+use Rattle.schema_merge.specs.Ordered.{number, is_noted, of_kinds, kinds, ordered_notes}
 use Rattle.told_laws.specs.Laws.{comes_before, NotesAreOrdered, unplaced}
 
 -- ---- tests of some element

@@ -15,7 +15,7 @@ use Rattle.merge_walks.specs.Walked.{less_by_walks, merge_by_walks, with_by_walk
 use Rattle.merge_laws.specs.Laws.{Meets, IsProper}
 use Rattle.walk_laws.proofs.Theorem.{merges_by_walks_are_meets}
 use Rattle.walk_laws.proofs.Unwalked.{same-admits, same-proper}
-use Rattle.merge_told.specs.Ordered.{ordered, ordered_notes}
+use Rattle.schema_merge.specs.Ordered.{ordered, ordered_notes}
 use Rattle.told_laws.specs.Laws.{Agrees, TellsAdmission, CallsAdmit, TellsInOrder, ToldNotesAreOrdered}
 use Rattle.told_laws.proofs.Noted.{any-ordered, PlacedRise, placed-rise}
 

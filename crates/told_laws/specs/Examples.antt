@@ -11,7 +11,7 @@ use Rattle.merge_walks.specs.Carried.{Walk, on_walk}
 use Rattle.merge_walks.specs.Samples.{document, members, merged_root}
 use Rattle.merge_walks.specs.Examples.{at, definition, member}
 use Rattle.merge_walks.specs.Told.{PlacedNote, Merged, Told, cannot, refused, told}
-use Rattle.merge_told.specs.Ordered.{merge_all_told, with_subschemas_told, subtract_told}
+use Rattle.schema_merge.specs.Ordered.{merge_all_told, with_subschemas_told, subtract_told}
 use Rattle.told_laws.specs.Laws.{admitted}
 
 abbrev pub what_is_told : Told → Merged

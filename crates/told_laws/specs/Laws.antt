@@ -10,7 +10,7 @@ use Rattle.merge_defs.specs.Outcome.{Way, narrowed, widened, same_way, Note}
 use Rattle.merge_defs.specs.Members.{only_same}
 use Rattle.merge_walks.specs.Told.{PlacedNote, Merged, Told, told}
 use Rattle.merge_laws.specs.Laws.{Given, IsProper, ProperSame, ProperAll, ProperDocument}
-use Rattle.merge_told.specs.Ordered.{number, ordered_notes, merge_all_told, with_subschemas_told, subtract_told}
+use Rattle.schema_merge.specs.Ordered.{number, ordered_notes, merge_all_told, with_subschemas_told, subtract_told}
 
 -- ---- the order of notes
 

@@ -4,22 +4,22 @@ use Rattle.entry_defs.specs.Entry.{Entry, option_entry, vec_entry, set_entry, ar
 use Rattle.naming_defs.specs.Names.{identified_fields}
 use Rattle.naming_defs.specs.Good.{is_good_name}
 use Rattle.good_names.specs.Given.{Does, name_given}
-use Rattle.row_types.specs.View.{tag_view}
-use Rattle.entry_trees.specs.View.{label_view, rule_view, atom_view, wrapped, tree_view, rest_fields, item_in}
+use Rattle.row_findings.specs.View.{tag_view}
+use Rattle.tree_types.specs.View.{label_view, rule_view, atom_view, wrapped, tree_view, rest_fields, item_in}
 use Rattle.tree_names.specs.Seen.{part_view, fields_of, parts_named, variant_view, variants_named, variants_identified, name_in, rest_named, item_named}
 use Rattle.good_names.specs.declared.given.GivenNames.{GivenNames}
-use Rattle.entry_trees.specs.declared.tree.Label.{Label}
-use Rattle.entry_trees.specs.declared.tree.Atom.{Atom}
-use Rattle.entry_trees.specs.declared.tree.Atom.TheVariants as atoms
-use Rattle.entry_trees.specs.declared.tree.Wrap.{Wrap}
-use Rattle.entry_trees.specs.declared.tree.Wrap.TheVariants as wraps
-use Rattle.entry_trees.specs.declared.tree.TreeRule.{TreeRule}
-use Rattle.entry_trees.specs.declared.tree.FieldHead.{FieldHead}
-use Rattle.entry_trees.specs.declared.tree.VariantHead.{VariantHead}
-use Rattle.row_types.specs.declared.row.TagRow.{TagRow}
-use Rattle.entry_trees.specs.declared.tree.Tree.{Tree}
-use Rattle.entry_trees.specs.declared.tree.Tree.TheVariants as trees
-use Rattle.entry_trees.proofs.Seen.{atom_seen, one_seen, map_seen}
+use Rattle.tree_types.specs.declared.tree.Label.{Label}
+use Rattle.tree_types.specs.declared.tree.Atom.{Atom}
+use Rattle.tree_types.specs.declared.tree.Atom.TheVariants as atoms
+use Rattle.tree_types.specs.declared.tree.Wrap.{Wrap}
+use Rattle.tree_types.specs.declared.tree.Wrap.TheVariants as wraps
+use Rattle.tree_types.specs.declared.tree.TreeRule.{TreeRule}
+use Rattle.tree_types.specs.declared.tree.FieldHead.{FieldHead}
+use Rattle.tree_types.specs.declared.tree.VariantHead.{VariantHead}
+use Rattle.row_findings.specs.declared.row.TagRow.{TagRow}
+use Rattle.tree_types.specs.declared.tree.Tree.{Tree}
+use Rattle.tree_types.specs.declared.tree.Tree.TheVariants as trees
+use Rattle.tree_types.proofs.Seen.{atom_seen, one_seen, map_seen}
 use Rattle.tree_names.proofs.Parts.{tuple_in_parts, struct_in_parts, enum_in_parts}
 use Rattle.tree_names.proofs.Walks.{struct_does, enum_does}
 

@@ -4,8 +4,8 @@ use Rattle.model_defs.specs.Model.{TagModel, external_tag, internal_tag, adjacen
 use Rattle.entry_defs.specs.Entry.{Entry, Fields, no_fields, field_then, field_again, entry_then, entry_again, struct_shape, enum_shape, variant_then, tuple_contents, struct_contents}
 use Rattle.naming_defs.specs.Names.{Names, field_names, variant_names, name_by, field_name, identified, identified_fields, variant_name, identified_variants, named, named_entries, named_shape, named_fields, named_variants, named_contents}
 use Rattle.naming_defs.specs.Good.{is_good_name}
-use Rattle.entry_trees.specs.declared.tree.ContentKind.{ContentKind}
-use Rattle.entry_trees.specs.declared.tree.ContentKind.TheVariants as kinds
+use Rattle.tree_types.specs.declared.tree.ContentKind.{ContentKind}
+use Rattle.tree_types.specs.declared.tree.ContentKind.TheVariants as kinds
 use Rattle.tree_names.specs.Seen.{PartD, places_of, fields_of, contents_of, names_of, parts_named, parts_identified, contents_named, VariantD, variants_of, variants_named, name_in, variants_identified}
 
 -- ---- parts

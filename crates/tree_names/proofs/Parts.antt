@@ -3,18 +3,18 @@ use Rattle.std.proofs.Common.{◌≡◌, List, [], ◌∷◌, map, Bool, Option,
 use Rattle.model_defs.specs.Model.{TagModel}
 use Rattle.entry_defs.specs.Entry.{entry_then, entry_again, tuple_entry, item, struct_shape, enum_shape, Fields, no_fields, field_then, field_again, variant_then, newtype_contents, tuple_contents, struct_contents}
 use Rattle.naming_defs.specs.Names.{name_by}
-use Rattle.row_types.specs.View.{state_view, tag_view}
-use Rattle.entry_trees.specs.View.{label_view, places_view, fields_view, first_part, contents_view, variants_view, tree_view, parts_of, cases_of, rest_fields}
+use Rattle.row_findings.specs.View.{state_view, tag_view}
+use Rattle.tree_types.specs.View.{label_view, places_view, fields_view, first_part, contents_view, variants_view, tree_view, parts_of, cases_of, rest_fields}
 use Rattle.tree_names.specs.Seen.{part_view, places_of, fields_of, first_of, contents_of, variant_view, variants_of}
-use Rattle.entry_trees.specs.declared.tree.Label.{Label}
-use Rattle.entry_trees.specs.declared.tree.FieldHead.{FieldHead}
-use Rattle.entry_trees.specs.declared.tree.VariantHead.{VariantHead}
-use Rattle.entry_trees.specs.declared.tree.ContentKind.{ContentKind}
-use Rattle.entry_trees.specs.declared.tree.ContentKind.TheVariants as kinds
-use Rattle.row_types.specs.declared.row.TagRow.{TagRow}
-use Rattle.entry_trees.specs.declared.tree.Tree.{Tree}
-use Rattle.entry_trees.specs.declared.tree.Tree.TheVariants as trees
-use Rattle.entry_trees.proofs.Seen.{tuple_seen, struct_seen, enum_seen}
+use Rattle.tree_types.specs.declared.tree.Label.{Label}
+use Rattle.tree_types.specs.declared.tree.FieldHead.{FieldHead}
+use Rattle.tree_types.specs.declared.tree.VariantHead.{VariantHead}
+use Rattle.tree_types.specs.declared.tree.ContentKind.{ContentKind}
+use Rattle.tree_types.specs.declared.tree.ContentKind.TheVariants as kinds
+use Rattle.row_findings.specs.declared.row.TagRow.{TagRow}
+use Rattle.tree_types.specs.declared.tree.Tree.{Tree}
+use Rattle.tree_types.specs.declared.tree.Tree.TheVariants as trees
+use Rattle.tree_types.proofs.Seen.{tuple_seen, struct_seen, enum_seen}
 
 pub places_seen : (ps : List (FieldHead × Option Tree)) → places_view (parts_of ps) ≡ places_of (map part_view ps)
 places_seen [] = refl

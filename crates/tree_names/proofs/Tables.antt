@@ -7,13 +7,13 @@ use Rattle.entry_defs.specs.Table.{TargetEntry, Table}
 use Rattle.naming_defs.specs.Names.{Names, item_name, named, named_shape, after_targets, named_targets, named_trees, keys, named_table}
 use Rattle.naming_defs.specs.Good.{is_good_name}
 use Rattle.good_names.specs.Given.{Stands, Does}
-use Rattle.entry_trees.specs.View.{label_view, target_view, tree_view, item_in, target_entry}
+use Rattle.tree_types.specs.View.{label_view, target_view, tree_view, item_in, target_entry}
 use Rattle.tree_names.specs.Folded.{targets_first}
 use Rattle.tree_names.specs.Seen.{item_named, target_named, targets_given, targets_named, trees_named, with_names}
 use Rattle.good_names.specs.declared.given.GivenNames.{GivenNames}
-use Rattle.entry_trees.specs.declared.tree.Label.{Label}
-use Rattle.entry_trees.specs.declared.tree.Target.{Target}
-use Rattle.entry_trees.specs.declared.tree.Tree.{Tree}
+use Rattle.tree_types.specs.declared.tree.Label.{Label}
+use Rattle.tree_types.specs.declared.tree.Target.{Target}
+use Rattle.tree_types.specs.declared.tree.Tree.{Tree}
 use Rattle.tree_names.proofs.Steps.{does_wrapped}
 
 abbrev T : List ℕ

@@ -6,14 +6,14 @@ use Rattle.entry_defs.specs.Table.{TargetEntry}
 use Rattle.naming_defs.specs.Names.{Names, name_by, keys}
 use Rattle.naming_defs.specs.Good.{is_good_name}
 use Rattle.good_names.specs.Given.{Stands, Does, name_given}
-use Rattle.entry_trees.specs.View.{label_view, tree_view, target_entry}
+use Rattle.tree_types.specs.View.{label_view, tree_view, target_entry}
 use Rattle.tree_names.specs.Seen.{PartD, part_view, names_of, part_named, parts_named, part_identified, parts_identified, variant_view, name_in, variant_named, variants_named, variant_identified, variants_identified, entry_named, trees_named, target_named, targets_named, targets_given, with_names}
 use Rattle.good_names.specs.declared.given.GivenNames.{GivenNames}
-use Rattle.entry_trees.specs.declared.tree.Label.{Label}
-use Rattle.entry_trees.specs.declared.tree.Target.{Target}
-use Rattle.entry_trees.specs.declared.tree.FieldHead.{FieldHead}
-use Rattle.entry_trees.specs.declared.tree.VariantHead.{VariantHead}
-use Rattle.entry_trees.specs.declared.tree.Tree.{Tree}
+use Rattle.tree_types.specs.declared.tree.Label.{Label}
+use Rattle.tree_types.specs.declared.tree.Target.{Target}
+use Rattle.tree_types.specs.declared.tree.FieldHead.{FieldHead}
+use Rattle.tree_types.specs.declared.tree.VariantHead.{VariantHead}
+use Rattle.tree_types.specs.declared.tree.Tree.{Tree}
 use Rattle.tree_names.proofs.Steps.{Gives, begin, turn, end, owned_begin, owned_turn, owned_end, want_turn, want_end, mapped_step, mapped_push, does_none, does_more}
 use Rattle.tree_names.proofs.Tables.{key_more, both_at}
 

@@ -6,15 +6,15 @@ use Rattle.naming_defs.specs.Names.{Names, field_name, variant_name, name_by, na
 use Rattle.naming_defs.specs.Good.{is_good_name}
 use Rattle.entry_defs.specs.Table.{TargetEntry}
 use Rattle.good_names.specs.Given.{Named, name_given}
-use Rattle.row_types.specs.View.{state_view}
-use Rattle.entry_trees.specs.View.{label_view, tree_view}
+use Rattle.row_findings.specs.View.{state_view}
+use Rattle.tree_types.specs.View.{label_view, tree_view}
 use Rattle.std.specs.declared.alloc.Global.{Global}
 use Rattle.std.specs.declared.vec.Vec.{Vec}
-use Rattle.entry_trees.specs.declared.tree.FieldHead.{FieldHead}
-use Rattle.entry_trees.specs.declared.tree.VariantHead.{VariantHead}
-use Rattle.entry_trees.specs.declared.tree.ContentKind.{ContentKind}
-use Rattle.entry_trees.specs.declared.tree.ContentKind.TheVariants as kinds
-use Rattle.entry_trees.specs.declared.tree.Tree.{Tree}
+use Rattle.tree_types.specs.declared.tree.FieldHead.{FieldHead}
+use Rattle.tree_types.specs.declared.tree.VariantHead.{VariantHead}
+use Rattle.tree_types.specs.declared.tree.ContentKind.{ContentKind}
+use Rattle.tree_types.specs.declared.tree.ContentKind.TheVariants as kinds
+use Rattle.tree_types.specs.declared.tree.Tree.{Tree}
 
 abbrev pub each : {X Y : Type 0} → (X → Names → Named Y) → List X → Names → Named (List Y)
 each f [] t = (t, [])

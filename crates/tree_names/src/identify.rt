@@ -3,15 +3,15 @@ ghost use Rattle.std.specs.Prelude.{◌≡◌, ℕ, List, [], ◌∷◌, ◌++�
 ghost use Rattle.naming_defs.specs.Names.{Names, name_by, identified_fields as fields_identified};
 ghost use Rattle.naming_defs.specs.Good.{is_good_name};
 ghost use Rattle.good_names.specs.Given.{Stands, Does};
-ghost use Rattle.row_types.specs.View.{tag_view};
-ghost use Rattle.entry_trees.specs.View.{rest_fields, label_view};
+ghost use Rattle.row_findings.specs.View.{tag_view};
+ghost use Rattle.tree_types.specs.View.{rest_fields, label_view};
 ghost use Rattle.tree_names.specs.Seen.{part_view, names_of, fields_of, part_identified, parts_identified, variant_view, name_in, variant_given, variant_identified, variants_identified};
 
 use crate::labels::new_label;
-use entry_trees::{FieldHead, Label, Tree, VariantHead};
 use good_names::GivenNames;
-use row_types::TagRow;
+use row_findings::TagRow;
 use std::alloc::{AllocError, Global};
+use tree_types::{FieldHead, Label, Tree, VariantHead};
 
 /// Fields, and a rest.
 #[derive(Drop)]

@@ -1,11 +1,11 @@
 //! Labels with the names that are given, and copies of what has none.
 ghost use Rattle.std.specs.Prelude.{◌≡◌, IfOk};
 ghost use Rattle.good_names.specs.Given.{Does, name_given};
-ghost use Rattle.entry_trees.specs.View.{atom_view, label_view, target_view};
+ghost use Rattle.tree_types.specs.View.{atom_view, label_view, target_view};
 
-use entry_trees::{Atom, Label, Target};
 use good_names::GivenNames;
 use std::alloc::{AllocError, Global};
+use tree_types::{Atom, Label, Target};
 
 /// The label with the name that is given for the one that it has.
 pub(crate) fn new_label<'d>(

@@ -4,16 +4,16 @@ ghost use Rattle.entry_defs.specs.Entry.{newtype_shape};
 ghost use Rattle.naming_defs.specs.Names.{Names, keys, named_table as table_named};
 ghost use Rattle.naming_defs.specs.Good.{is_good_name};
 ghost use Rattle.good_names.specs.Given.{Stands, Does, name_given};
-ghost use Rattle.entry_trees.specs.View.{label_view, rule_view, wrapped, tree_view, item_in, target_entry, table_view};
+ghost use Rattle.tree_types.specs.View.{label_view, rule_view, wrapped, tree_view, item_in, target_entry, table_view};
 ghost use Rattle.tree_names.specs.Folded.{targets_first};
 ghost use Rattle.tree_names.specs.Seen.{item_named, target_named, targets_given, targets_named, trees_named, with_names};
 
 use crate::identify::{identified_members, identified_variants};
 use crate::labels::{copy_label, copy_target, new_label};
 use crate::walk::{named_parts, named_rest, named_tree, named_variants};
-use entry_trees::{Label, Target, Tree, TreeRule, TreeTable, Wrap};
 use good_names::GivenNames;
 use std::alloc::{AllocError, Global};
+use tree_types::{Label, Target, Tree, TreeRule, TreeTable, Wrap};
 
 fn want_key(
     alloc: Global,
@@ -197,7 +197,7 @@ fn named_wrap<'d>(
 }
 
 // The tree as the item of that name.
-#[tactic(auto, using(crate::proofs::Led::atom_led, crate::proofs::Led::map_led, crate::proofs::Led::tuple_led, entry_trees::proofs::Seen::one_seen))]
+#[tactic(auto, using(crate::proofs::Led::atom_led, crate::proofs::Led::map_led, crate::proofs::Led::tuple_led, tree_types::proofs::Seen::one_seen))]
 fn named_item<'d>(
     alloc: Global,
     names: &mut GivenNames,

@@ -1,19 +1,19 @@
 //! The walk that names the items of trees. It copies, so that what it is given stays.
 ghost use Rattle.std.specs.Prelude.{IfOk, map, codes};
 ghost use Rattle.good_names.specs.Given.{Does};
-ghost use Rattle.entry_trees.specs.View.{rest_fields, wrapped, tree_view};
+ghost use Rattle.tree_types.specs.View.{rest_fields, wrapped, tree_view};
 ghost use Rattle.tree_names.specs.Seen.{part_view, part_named, parts_named, contents_named, variant_view, variant_named, variants_named, entry_named, rest_named};
 
 use crate::identify::{identified_contents, identified_members, identified_variants};
 use crate::labels::{copy_atom, copy_label, new_label};
-use entry_trees::{ContentKind, FieldHead, Label, Tree, VariantHead, Wrap};
 use good_names::GivenNames;
 use std::alloc::{AllocError, Global};
+use tree_types::{ContentKind, FieldHead, Label, Tree, VariantHead, Wrap};
 
 /// The tree with the names of its items and within them. Items are named in the order in which they are come to, after those that
 /// have their names. Fails only for want of memory.
 #[cycle(naming)]
-#[tactic(auto, using(crate::proofs::Walks::atom_does, crate::proofs::Walks::map_does, crate::proofs::Walks::tuple_does, crate::proofs::Walks::enum_whole, crate::proofs::Walks::one_whole, entry_trees::proofs::Sizes::one_falls, entry_trees::proofs::Sizes::keys_fall, entry_trees::proofs::Sizes::values_fall, entry_trees::proofs::Sizes::tuple_falls, entry_trees::proofs::Sizes::fields_fall, entry_trees::proofs::Sizes::rest_falls, entry_trees::proofs::Sizes::variants_fall))]
+#[tactic(auto, using(crate::proofs::Walks::atom_does, crate::proofs::Walks::map_does, crate::proofs::Walks::tuple_does, crate::proofs::Walks::enum_whole, crate::proofs::Walks::one_whole, tree_types::proofs::Sizes::one_falls, tree_types::proofs::Sizes::keys_fall, tree_types::proofs::Sizes::values_fall, tree_types::proofs::Sizes::tuple_falls, tree_types::proofs::Sizes::fields_fall, tree_types::proofs::Sizes::rest_falls, tree_types::proofs::Sizes::variants_fall))]
 pub fn named_tree<'d>(
     alloc: Global,
     names: &mut GivenNames,
@@ -120,7 +120,7 @@ fn named_one<'d>(
 }
 
 #[cycle(naming)]
-#[tactic(auto, using(crate::proofs::Walks::none_does, crate::proofs::Walks::some_does, entry_trees::proofs::Sizes::tree_in_part))]
+#[tactic(auto, using(crate::proofs::Walks::none_does, crate::proofs::Walks::some_does, tree_types::proofs::Sizes::tree_in_part))]
 fn named_part<'d>(
     alloc: Global,
     names: &mut GivenNames,

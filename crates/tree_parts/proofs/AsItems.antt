@@ -3,9 +3,9 @@ use Rattle.std.proofs.Common.{◌≡◌, ℕ, List, None, refl, ap}
 use Rattle.entry_defs.specs.Entry.{Entry, item, newtype_shape}
 use Rattle.entry_defs.specs.Table.{ItemEntry}
 use Rattle.convert_defs.specs.Convert.{as_item}
-use Rattle.entry_trees.specs.View.{atom_view, item_in, item_entry}
-use Rattle.entry_trees.specs.declared.tree.Atom.{Atom}
-use Rattle.entry_trees.specs.declared.tree.Atom.TheVariants as atoms
+use Rattle.tree_types.specs.View.{atom_view, item_in, item_entry}
+use Rattle.tree_types.specs.declared.tree.Atom.{Atom}
+use Rattle.tree_types.specs.declared.tree.Atom.TheVariants as atoms
 
 pub item_is : (e : Entry) (i : ItemEntry) → e ≡ item_entry i → item_in e ≡ i
 item_is e i h = ap item_in h

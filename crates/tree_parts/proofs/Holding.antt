@@ -4,15 +4,15 @@ use Rattle.std.specs.Prelude.{if◌then◌else◌}
 use Rattle.model_defs.specs.Model.{TagModel, external_tag, internal_tag, adjacent_tag, untagged}
 use Rattle.entry_defs.specs.Entry.{Entry, item, tuple_entry, struct_shape, Fields, rest_of, struct_contents, newtype_contents, tuple_contents, unit_contents}
 use Rattle.convert_defs.specs.Convert.{content_of, same_flag, is_without_rest, is_closed_struct, has_two_places}
-use Rattle.entry_trees.specs.View.{Parts, atom_view, wrapped, places_view, fields_view, rest_fields, contents_view, tree_view, parts_of}
-use Rattle.entry_trees.specs.declared.tree.Atom.{Atom}
-use Rattle.entry_trees.specs.declared.tree.Atom.TheVariants as atoms
-use Rattle.entry_trees.specs.declared.tree.Wrap.{Wrap}
-use Rattle.entry_trees.specs.declared.tree.Wrap.TheVariants as wraps
-use Rattle.entry_trees.specs.declared.tree.Label.{Label}
-use Rattle.entry_trees.specs.declared.tree.FieldHead.{FieldHead}
-use Rattle.entry_trees.specs.declared.tree.ContentKind.TheVariants as kinds
-use Rattle.entry_trees.specs.declared.tree.Tree.{Tree}
+use Rattle.tree_types.specs.View.{Parts, atom_view, wrapped, places_view, fields_view, rest_fields, contents_view, tree_view, parts_of}
+use Rattle.tree_types.specs.declared.tree.Atom.{Atom}
+use Rattle.tree_types.specs.declared.tree.Atom.TheVariants as atoms
+use Rattle.tree_types.specs.declared.tree.Wrap.{Wrap}
+use Rattle.tree_types.specs.declared.tree.Wrap.TheVariants as wraps
+use Rattle.tree_types.specs.declared.tree.Label.{Label}
+use Rattle.tree_types.specs.declared.tree.FieldHead.{FieldHead}
+use Rattle.tree_types.specs.declared.tree.ContentKind.TheVariants as kinds
+use Rattle.tree_types.specs.declared.tree.Tree.{Tree}
 use Rattle.tree_parts.specs.Options.{is_unit, is_untagged}
 
 -- ---- atoms

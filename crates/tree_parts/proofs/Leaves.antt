@@ -19,12 +19,12 @@ use Rattle.enum_defs.specs.Words.{as_text}
 use Rattle.convert_defs.specs.Convert.{labeled}
 use Rattle.convert_defs.specs.Scalars.{distinct, kept_texts, listed_entry, texts_in, unit_variants, non_null}
 use Rattle.attr_parts.proofs.Added.{mapped_drop}
-use Rattle.row_types.specs.declared.given.GivenValues.{GivenValues}
-use Rattle.row_types.specs.Given.{given_values_view}
-use Rattle.entry_trees.specs.View.{variants_then, variants_view, cases_of}
-use Rattle.entry_trees.specs.declared.tree.FieldHead.{FieldHead}
-use Rattle.entry_trees.specs.declared.tree.VariantHead.{VariantHead}
-use Rattle.entry_trees.specs.declared.tree.Tree.{Tree}
+use Rattle.row_findings.specs.declared.given.GivenValues.{GivenValues}
+use Rattle.row_findings.specs.Given.{given_values_view}
+use Rattle.tree_types.specs.View.{variants_then, variants_view, cases_of}
+use Rattle.tree_types.specs.declared.tree.FieldHead.{FieldHead}
+use Rattle.tree_types.specs.declared.tree.VariantHead.{VariantHead}
+use Rattle.tree_types.specs.declared.tree.Tree.{Tree}
 use Rattle.tree_parts.specs.Lists.{kept_after, kept_one}
 
 -- ---- names

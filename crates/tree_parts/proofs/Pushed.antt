@@ -6,12 +6,12 @@ use Rattle.model_defs.specs.Model.{TagModel, external_tag, internal_tag, adjacen
 use Rattle.entry_defs.specs.Entry.{Entry, Entries, no_entries, entry_then, entry_again, Fields, no_fields, field_then, field_again, rest_field, State, required, Variants, variant_then}
 use Rattle.naming_defs.specs.Names.{name_by}
 use Rattle.convert_defs.specs.Convert.{alike_fields, alike_entries}
-use Rattle.row_types.specs.View.{state_view}
-use Rattle.entry_trees.specs.View.{label_view, places_then, fields_view, variants_then, contents_view, tree_view, parts_of, cases_of}
-use Rattle.entry_trees.specs.declared.tree.FieldHead.{FieldHead}
-use Rattle.entry_trees.specs.declared.tree.VariantHead.{VariantHead}
-use Rattle.entry_trees.specs.declared.tree.ContentKind.{ContentKind}
-use Rattle.entry_trees.specs.declared.tree.Tree.{Tree}
+use Rattle.row_findings.specs.View.{state_view}
+use Rattle.tree_types.specs.View.{label_view, places_then, fields_view, variants_then, contents_view, tree_view, parts_of, cases_of}
+use Rattle.tree_types.specs.declared.tree.FieldHead.{FieldHead}
+use Rattle.tree_types.specs.declared.tree.VariantHead.{VariantHead}
+use Rattle.tree_types.specs.declared.tree.ContentKind.{ContentKind}
+use Rattle.tree_types.specs.declared.tree.Tree.{Tree}
 use Rattle.tree_parts.specs.Lists.{fields_again, places_again}
 
 -- ---- fields

@@ -4,15 +4,15 @@ ghost use Rattle.schema_types.specs.View.{properties_view};
 ghost use Rattle.entry_defs.specs.Entry.{Entry, item, map_entry, option_entry, tuple_entry, struct_shape, enum_shape, newtype_shape};
 ghost use Rattle.convert_defs.specs.Convert.{pattern_key, nullable_entry};
 ghost use Rattle.convert_defs.specs.Owners.{pattern_names};
-ghost use Rattle.row_types.specs.View.{tag_view};
-ghost use Rattle.entry_trees.specs.View.{label_view, atom_view, rule_view, wrapped, places_view, fields_view, rest_fields, variants_view, tree_view, parts_of, cases_of};
+ghost use Rattle.row_findings.specs.View.{tag_view};
+ghost use Rattle.tree_types.specs.View.{label_view, atom_view, rule_view, wrapped, places_view, fields_view, rest_fields, variants_view, tree_view, parts_of, cases_of};
 ghost use Rattle.tree_parts.specs.Options.{is_option_entry};
 
-use entry_trees::{Atom, FieldHead, Label, Tree, TreeRule, VariantHead, Wrap};
-use row_types::TagRow;
+use row_findings::TagRow;
 use schema_types::Schema;
 use std::alloc::{AllocError, Global};
 use std::collections::BTreeMap;
+use tree_types::{Atom, FieldHead, Label, Tree, TreeRule, VariantHead, Wrap};
 
 /// The wanted name. It takes no memory.
 pub fn label<'d>(wanted: &'d str) -> Label<'d>
@@ -26,7 +26,7 @@ pub fn label<'d>(wanted: &'d str) -> Label<'d>
 }
 
 /// An entry without parts. It takes no memory.
-#[tactic(auto, using(entry_trees::proofs::Seen::atom_seen))]
+#[tactic(auto, using(tree_types::proofs::Seen::atom_seen))]
 pub fn atom<'d>(atom: Atom) -> Tree<'d>
     ensures { tree_view result ≡ atom_view atom }
 {
@@ -41,7 +41,7 @@ pub fn one<'d>(alloc: Global, wrap: Wrap<'d>, tree: Tree<'d>) -> Result<Tree<'d>
     Ok(one_of(wrap, held))
 }
 
-#[tactic(auto, using(entry_trees::proofs::Seen::one_seen))]
+#[tactic(auto, using(tree_types::proofs::Seen::one_seen))]
 pub(crate) fn one_of<'d>(wrap: Wrap<'d>, held: Box<Tree<'d>>) -> Tree<'d>
     ensures { tree_view result ≡ wrapped wrap.entry (tree_view held.entry.value) }
 {
@@ -145,7 +145,7 @@ pub fn map_tree<'d>(alloc: Global, keys: Tree<'d>, values: Tree<'d>) -> Result<T
     Ok(map_of(keys, values))
 }
 
-#[tactic(auto, using(entry_trees::proofs::Seen::map_seen))]
+#[tactic(auto, using(tree_types::proofs::Seen::map_seen))]
 pub(crate) fn map_of<'d>(keys: Box<Tree<'d>>, values: Box<Tree<'d>>) -> Tree<'d>
     ensures { tree_view result ≡ map_entry (tree_view keys.entry.value) (tree_view values.entry.value) }
 {
@@ -164,7 +164,7 @@ pub fn pattern_keys<'d>(
 }
 
 /// A tuple of the places. It takes no memory.
-#[tactic(auto, using(entry_trees::proofs::Seen::tuple_seen))]
+#[tactic(auto, using(tree_types::proofs::Seen::tuple_seen))]
 pub fn tuple_tree<'d>(places: Vec<(FieldHead<'d>, Option<Tree<'d>>)>) -> Tree<'d>
     ensures { tree_view result ≡ tuple_entry (places_view (parts_of places.entry.items)) }
 {
@@ -183,7 +183,7 @@ pub fn struct_tree<'d>(
     struct_of(label(name), closed, fields, rest)
 }
 
-#[tactic(auto, using(entry_trees::proofs::Seen::struct_seen))]
+#[tactic(auto, using(tree_types::proofs::Seen::struct_seen))]
 pub(crate) fn struct_of<'d>(
     name: Label<'d>,
     closed: bool,
@@ -212,7 +212,7 @@ pub fn enum_tree<'d>(
     enum_of(label(name), closed, tag, variants)
 }
 
-#[tactic(auto, using(entry_trees::proofs::Seen::enum_seen))]
+#[tactic(auto, using(tree_types::proofs::Seen::enum_seen))]
 pub(crate) fn enum_of<'d>(
     name: Label<'d>,
     closed: bool,

@@ -2,15 +2,15 @@
 ghost use Rattle.std.specs.Prelude.{◌≡◌, IfOk};
 ghost use Rattle.entry_defs.specs.Entry.{item, newtype_contents, struct_shape, tuple_entry};
 ghost use Rattle.convert_defs.specs.Convert.{content_of, is_closed_struct as is_closed_struct_of};
-ghost use Rattle.row_types.specs.View.{tag_view};
-ghost use Rattle.entry_trees.specs.View.{label_view, atom_view, wrapped, places_view, fields_view, rest_fields, contents_view, tree_view, parts_of};
+ghost use Rattle.row_findings.specs.View.{tag_view};
+ghost use Rattle.tree_types.specs.View.{label_view, atom_view, wrapped, places_view, fields_view, rest_fields, contents_view, tree_view, parts_of};
 ghost use Rattle.tree_parts.specs.Options.{is_unit as is_unit_of, is_untagged as is_untagged_of};
 
 use crate::build::{atom, enum_of, map_of, one_of, struct_of, tuple_tree};
 use crate::lists::head;
-use entry_trees::{Atom, ContentKind, FieldHead, Label, Tree, Wrap};
-use row_types::{FieldState, TagRow};
+use row_findings::{FieldState, TagRow};
 use std::alloc::{AllocError, Global};
+use tree_types::{Atom, ContentKind, FieldHead, Label, Tree, Wrap};
 
 /// Whether it is a struct that is closed. It takes no memory.
 pub fn is_closed_struct(tree: &Tree<'_>) -> bool
@@ -139,7 +139,7 @@ fn one_content<'d>(
     Ok(parts)
 }
 
-#[tactic(auto, using(entry_trees::proofs::Seen::enum_seen))]
+#[tactic(auto, using(tree_types::proofs::Seen::enum_seen))]
 /// What a variant holds that holds it: a tuple's places, nothing, a struct's fields where it is closed as the enum is and keeps no
 /// rest, or else it.
 pub fn content<'d>(

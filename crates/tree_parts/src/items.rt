@@ -2,11 +2,11 @@
 ghost use Rattle.std.specs.Prelude.{◌≡◌, None, IfOk};
 ghost use Rattle.entry_defs.specs.Entry.{item, newtype_shape};
 ghost use Rattle.convert_defs.specs.Convert.{as_item as as_item_of};
-ghost use Rattle.entry_trees.specs.View.{atom_view, wrapped, tree_view, item_in, item_entry};
+ghost use Rattle.tree_types.specs.View.{atom_view, wrapped, tree_view, item_in, item_entry};
 
 use crate::build::{atom, enum_tree, label, map_of, newtype, one_of, struct_tree, tuple_tree};
-use entry_trees::{Atom, Tree, Wrap};
 use std::alloc::{AllocError, Global};
+use tree_types::{Atom, Tree, Wrap};
 
 /// It as an item of that name: a struct, an enum or a newtype, or else one that holds it.
 #[tactic(auto, using(crate::proofs::AsItems::item_is))]
@@ -18,7 +18,7 @@ pub fn as_item<'d>(alloc: Global, name: &'d str, tree: Tree<'d>) -> Result<Tree<
     Ok(found)
 }
 
-#[tactic(auto, using(entry_trees::proofs::Seen::enum_seen))]
+#[tactic(auto, using(tree_types::proofs::Seen::enum_seen))]
 fn item_of<'d>(alloc: Global, name: &'d str, tree: Tree<'d>) -> Result<Tree<'d>, AllocError>
     ensures { IfOk result (λ t. tree_view t ≡ item_entry (as_item_of name.now (tree_view tree.entry))) }
 {

@@ -12,22 +12,22 @@ ghost use Rattle.entry_defs.specs.Entry.{Variants, item, newtype_shape, text_ent
 ghost use Rattle.enum_defs.specs.Words.{as_text as as_text_of};
 ghost use Rattle.convert_defs.specs.Convert.{labeled};
 ghost use Rattle.convert_defs.specs.Scalars.{kept_texts, listed_entry, never_entry, rule_of_texts, texts_in, unit_variants};
-ghost use Rattle.row_types.specs.Given.{given_values_view};
-ghost use Rattle.row_types.specs.View.{leaf_view};
-ghost use Rattle.entry_trees.specs.View.{tree_view, variants_then, variants_view, cases_of};
+ghost use Rattle.row_findings.specs.Given.{given_values_view};
+ghost use Rattle.row_findings.specs.View.{leaf_view};
+ghost use Rattle.tree_types.specs.View.{tree_view, variants_then, variants_view, cases_of};
 ghost use Rattle.tree_parts.specs.Lists.{kept_after, kept_one};
 
 use crate::build::{as_option, atom, enum_tree, newtype};
 use crate::lists::with_variant;
 use crate::texts::meets_texts;
-use entry_trees::{Atom, ContentKind, FieldHead, Tree, TreeRule, VariantHead};
-use row_types::{GivenValues, Leaf, TagRow};
+use row_findings::{GivenValues, Leaf, TagRow};
 use scalar_rows::{ValueKind, any_of};
 use schema_tree::{TextFault, Texts};
 use schema_types::StringValidation;
 use serde_json::Value;
 use std::alloc::{AllocError, Global};
 use std::collections::BTreeSet;
+use tree_types::{Atom, ContentKind, FieldHead, Tree, TreeRule, VariantHead};
 
 /// The entry that a schema has by itself, an item of that wanted name where it is one. Each listed text is asked about once. It fails
 /// where memory runs out, or where the judge of texts failed.

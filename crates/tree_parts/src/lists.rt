@@ -3,14 +3,14 @@ ghost use Rattle.std.specs.Prelude.{◌≡◌, ◌≤◌, false, Some, IfOk, cod
 ghost use Rattle.entry_defs.specs.Entry.{Entries, Fields, Variants, entry_then, field_then, no_fields, rest_field, variant_then};
 ghost use Rattle.model_defs.specs.Model.{TagModel};
 ghost use Rattle.convert_defs.specs.Convert.{alike_fields, alike_entries};
-ghost use Rattle.row_types.specs.View.{state_view};
-ghost use Rattle.entry_trees.specs.View.{label_view, places_view, places_then, fields_view, rest_fields, variants_then, contents_view, tree_view, parts_of, cases_of};
+ghost use Rattle.row_findings.specs.View.{state_view};
+ghost use Rattle.tree_types.specs.View.{label_view, places_view, places_then, fields_view, rest_fields, variants_then, contents_view, tree_view, parts_of, cases_of};
 ghost use Rattle.tree_parts.specs.Lists.{fields_again, places_again};
 
 use crate::build::label;
-use entry_trees::{ContentKind, FieldHead, Label, Tree, VariantHead};
-use row_types::FieldState;
+use row_findings::FieldState;
 use std::alloc::{AllocError, Global};
+use tree_types::{ContentKind, FieldHead, Label, Tree, VariantHead};
 
 pub(crate) fn head<'d>(name: &'d str, state: FieldState<'d>) -> FieldHead<'d>
     ensures name { label_view result.label ≡ name.now }

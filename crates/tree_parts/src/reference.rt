@@ -4,11 +4,11 @@ ghost use Rattle.std.specs.Char.{encode_utf8};
 ghost use Rattle.schema_defs.specs.Location.{unescaped};
 ghost use Rattle.schema_defs.specs.Admits.{first_of, without_prefix};
 ghost use Rattle.convert_defs.specs.Table.{target_of};
-ghost use Rattle.entry_trees.specs.View.{target_view};
+ghost use Rattle.tree_types.specs.View.{target_view};
 ghost use Rattle.tree_parts.specs.Decoding.{left_decodes};
 
-use entry_trees::Target;
 use std::alloc::{AllocError, Global};
+use tree_types::Target;
 
 /// What the reference leads to: the root for `#`, and the definition NAME for `#/definitions/NAME` and `#/$defs/NAME`, where in
 /// NAME `~1` is `/`, `~0` is `~`, and nothing else is decoded.

@@ -5,9 +5,9 @@ ghost use Rattle.run_io.specs.Bytes.{Rises};
 ghost use Rattle.schema_defs.specs.Layer.{if_given, within, texts_agree};
 ghost use Rattle.schema_types.specs.View.{properties_view, texts_view};
 ghost use Rattle.convert_defs.specs.Owners.{pattern_names};
-ghost use Rattle.row_types.specs.View.{patterns_view};
+ghost use Rattle.row_findings.specs.View.{patterns_view};
 
-use row_types::Patterns;
+use row_findings::Patterns;
 use schema_tree::{TextFault, Texts};
 use schema_types::{Schema, StringValidation};
 use std::collections::BTreeMap;

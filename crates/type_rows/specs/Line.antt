@@ -7,8 +7,8 @@ use Rattle.schema_defs.specs.Schema.{Plain, Lists, Named}
 use Rattle.schema_defs.specs.Texts.{Relations}
 use Rattle.convert_defs.specs.Row.{Finding, VariantRow}
 use Rattle.convert_defs.specs.Table.{Line, type_among, type_variant}
-use Rattle.row_types.specs.View.{finding_view}
-use Rattle.row_types.specs.declared.finding.Finding as findings
+use Rattle.row_findings.specs.View.{finding_view}
+use Rattle.row_findings.specs.declared.finding.Finding as findings
 
 abbrev pub line : Bool → Finding → Option Finding
 line fits finding = if fits then Some finding else None

@@ -1,10 +1,10 @@
 //! What a line of the table hands on.
 ghost use Rattle.std.specs.Prelude.{◌≡◌, IfOk};
 ghost use Rattle.schema_defs.specs.Texts.{Relations};
-ghost use Rattle.row_types.specs.View.{finding_view};
+ghost use Rattle.row_findings.specs.View.{finding_view};
 ghost use Rattle.type_rows.specs.Line.{held_view};
 
-use row_types::Finding;
+use row_findings::Finding;
 use std::alloc::{AllocError, Global};
 
 /// The finding, so that lines are short to hand on.

@@ -10,12 +10,12 @@ ghost use Rattle.model_defs.specs.Model.{untagged};
 ghost use Rattle.convert_defs.specs.Row.{plainly as plainly_as, as_it_is_row, enum_row, by_contents, made as made_of};
 ghost use Rattle.convert_defs.specs.Standing.{less_types as less_types_of};
 ghost use Rattle.convert_defs.specs.Table.{type_among as type_among_of, every_type, only_type as only_type_of, with_type, many_of, of_kinds as of_kinds_in, type_variant as type_variant_of, type_variants as type_variants_of};
-ghost use Rattle.row_types.specs.Given.{plain_view, same_view, lists_view, named_view, keywords_view};
-ghost use Rattle.row_types.specs.View.{row_view, variant_view};
+ghost use Rattle.row_findings.specs.Given.{plain_view, same_view, lists_view, named_view, keywords_view};
+ghost use Rattle.row_findings.specs.View.{row_view, variant_view};
 ghost use Rattle.type_rows.specs.Line.{held_view, line, variant_if};
 
 use crate::line::hold;
-use row_types::{
+use row_findings::{
     Closing, Finding, GivenTypes, Keywords, Part, Row, Source, TagRow, VariantBody, VariantRow,
     is_bare, less_types, made, no_keyword, of_type, only_type, plainly, type_among,
 };

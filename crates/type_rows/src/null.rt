@@ -9,12 +9,12 @@ ghost use Rattle.convert_defs.specs.Row.{plainly as plainly_as, noted as noted_a
 ghost use Rattle.convert_defs.specs.Standing.{of_type as of_type_of};
 ghost use Rattle.convert_defs.specs.Scalars.{non_null};
 ghost use Rattle.convert_defs.specs.Table.{type_beside_null as type_beside_null_of, beside_null as beside_null_of, lists_only_nulls as lists_only_nulls_of, lists_no_null as lists_no_null_of, nullable, nullable_notes};
-ghost use Rattle.row_types.specs.Given.{given_values_view, plain_view, same_view, lists_view, named_view, keywords_view};
-ghost use Rattle.row_types.specs.View.{row_view};
+ghost use Rattle.row_findings.specs.Given.{given_values_view, plain_view, same_view, lists_view, named_view, keywords_view};
+ghost use Rattle.row_findings.specs.View.{row_view};
 ghost use Rattle.type_rows.specs.Line.{held_view, line};
 
 use crate::line::hold;
-use row_types::{
+use row_findings::{
     Finding, GivenTypes, GivenValues, Keywords, Leaf, NoteKind, Row, Way, has_type, is_bare, made,
     noted, plainly, same_type, type_beside_null, with_note,
 };

@@ -8,12 +8,12 @@ ghost use Rattle.convert_defs.specs.Row.{plainly as plainly_as, merged_row, made
 ghost use Rattle.convert_defs.specs.Standing.{less_reference as less_reference_of};
 ghost use Rattle.convert_defs.specs.Table.{reference_row, no_others as no_others_of, same_lists as same_lists_of, same_types, types_of_schema, target_types, target_part};
 ghost use Rattle.schema_types.specs.View.{types_view, schema_view};
-ghost use Rattle.row_types.specs.Given.{plain_view, same_view, lists_view, named_view, given_types_view};
-ghost use Rattle.row_types.specs.View.{part_view};
+ghost use Rattle.row_findings.specs.Given.{plain_view, same_view, lists_view, named_view, given_types_view};
+ghost use Rattle.row_findings.specs.View.{part_view};
 ghost use Rattle.type_rows.specs.Line.{held_view, line};
 
 use crate::line::hold;
-use row_types::{
+use row_findings::{
     Finding, GivenTypes, Keywords, Part, PartKind, Row, Source, Steps, is_without_same,
     less_reference, made, no_others, plainly, same_type,
 };

@@ -7,12 +7,12 @@ ghost use Rattle.entry_defs.specs.Entry.{any_entry};
 ghost use Rattle.convert_defs.specs.Row.{plainly as plainly_as, noted as noted_as, here, widened, const_note, leaf_row, as_it_is_row, merged_row, refused_row, conditional, made as made_of};
 ghost use Rattle.convert_defs.specs.Standing.{is_untyped as is_untyped_of, has_conditional as has_conditional_of, less_const as less_const_of, less_enum as less_enum_of, no_keyword as no_keyword_of};
 ghost use Rattle.convert_defs.specs.Table.{has_one_type as has_one_type_of, allowed_row, listed};
-ghost use Rattle.row_types.specs.Given.{plain_view, same_view, lists_view, named_view, keywords_view, given_values_view};
-ghost use Rattle.row_types.specs.View.{part_view, finding_view};
+ghost use Rattle.row_findings.specs.Given.{plain_view, same_view, lists_view, named_view, keywords_view, given_values_view};
+ghost use Rattle.row_findings.specs.View.{part_view, finding_view};
 ghost use Rattle.type_rows.specs.Line.{held_view, line};
 
 use crate::line::hold;
-use row_types::{
+use row_findings::{
     Cause, Finding, GivenValues, Keywords, Leaf, NoteKind, Part, Row, RowRule, Way,
     has_conditional, has_one_type, is_bare, is_untyped, is_without_lists, is_without_named,
     is_without_same, less_const, less_enum, made, no_keyword, noted, plainly, refused, with_note,

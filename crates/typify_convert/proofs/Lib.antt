@@ -1,4 +1,7 @@
-pub mod Firsts
-pub use Rattle.convert_trees.proofs.Ends
-pub use Rattle.convert_trees.proofs.Roots
-pub use Rattle.convert_trees.proofs.Telling
+pub mod Planned
+pub mod Taken
+pub mod Standing
+pub mod Holding
+pub mod Told
+pub mod Refusals
+pub mod Coming

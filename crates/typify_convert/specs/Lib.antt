@@ -1,8 +1,7 @@
-pub mod Note
-pub mod Emitted
-pub mod Levels
-pub mod Unread
+pub mod Placing
+pub mod Kept
+pub mod Gathered
+pub mod Space
+pub mod Added
 pub mod Refused
-pub use Rattle.convert_trees.specs.Keeping
-pub use Rattle.convert_trees.specs.Merges
-pub use Rattle.convert_trees.specs.Told
+pub mod Laws

@@ -1,18 +1,20 @@
-//! Documents converted: the items that stand for a schema document, the table of what their attributes don't say, the type of
-//! the root, and the notes.
+//! A space of types that grows call by call: the entries with their ids, and in the end the items that stand for them.
 #![tactic(auto)]
 
-mod checking;
-mod conversion;
-mod nesting;
-mod note;
-mod noting;
+mod collect;
+mod finish;
+mod gather;
+mod keeping;
+pub mod laws;
+mod plan;
+mod refusing;
+mod schema;
+mod space;
+mod target;
 
-pub use conversion::{Emitted, converted};
-pub use convert_trees::{
-    Kept, Merge, PlacedNote, Unread, definition_targets, merges_at, merges_of, nothing_kept,
-    root_name, root_tree, tree_at,
+pub use convert_document::{Emitted, Note, NoteKind, Way};
+pub use entry_space::{
+    Content, FieldEntry, IntName, ItemEntry, ItemShape, State, TypeEntries, TypeEntry, TypeId,
+    VariantEntry,
 };
-pub use nesting::levels;
-pub use note::{Note, NoteKind, Way};
-pub use noting::notes_of;
+pub use space::TypeSpace;

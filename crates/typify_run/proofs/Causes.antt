@@ -20,11 +20,11 @@ use Rattle.schema_tree.specs.Fault.{FaultD, fault_view, memory, malformed, missi
 use Rattle.schema_tree.specs.Numbers.{are_i64, holds_i64_alone, wide_place, IsWideAt, HasWideNumber}
 use Rattle.schema_tree.proofs.WidePlaces.{wide_exact}
 use Rattle.convert_walks.specs.Told.{faults_of}
-use Rattle.typify_convert.specs.Levels.{most_levels}
-use Rattle.typify_convert.proofs.Firsts.{first_is_one}
-use Rattle.typify_convert.specs.Unread.{unread_in_document}
-use Rattle.typify_convert.proofs.Roots.{root_place}
-use Rattle.typify_convert.specs.Refused as convert
+use Rattle.convert_document.specs.Levels.{most_levels}
+use Rattle.convert_document.proofs.Firsts.{first_is_one}
+use Rattle.convert_document.specs.Unread.{unread_in_document}
+use Rattle.convert_document.proofs.Roots.{root_place}
+use Rattle.convert_document.specs.Refused as convert
 use Rattle.typify_run.specs.Verdicts.{IsUnjudged}
 use Rattle.typify_run.specs.Examine.{IsCause, IsRefusal, IsUnreported, is_none_of, is_converted, is_examined}
 use Rattle.typify_run.proofs.Judged.{both_true}

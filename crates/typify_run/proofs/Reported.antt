@@ -29,13 +29,13 @@ use Rattle.convert_defs.specs.Laws.{Keeps, same_way}
 use Rattle.convert_walks.specs.Told.{Note, notes_of}
 use Rattle.merging_laws.specs.Conversion.{Free}
 use Rattle.document_laws.specs.Laws.{WasRead}
-use Rattle.typify_convert.specs.Levels.{most_levels}
+use Rattle.convert_document.specs.Levels.{most_levels}
 use Rattle.merged_documents.specs.Laws.{plan_of}
 use Rattle.merged_documents.proofs.Shaped.{read_plans_are_emittable}
 use Rattle.merged_documents.proofs.Composed.{documents_mean_items}
 use Rattle.derive_model.specs.VerdictView.{verdict_view}
-use Rattle.typify_convert.specs.Note.{way_of, note_of}
-use Rattle.typify_convert.specs.Emitted.{emission_of}
+use Rattle.convert_document.specs.Note.{way_of, note_of}
+use Rattle.convert_document.specs.Emitted.{emission_of}
 use Rattle.reading_defs.specs.Laws.{defaults_are_sound}
 use Rattle.typify_run.specs.Headline as headline
 use Rattle.typify_run.specs.Headline.{Deriving, read_of, items_of, HasNone, IsNarrowed, IsWidened, report_reads, document_admits, IsReportOf}

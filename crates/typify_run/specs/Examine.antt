@@ -10,12 +10,12 @@ use Rattle.schema_tree.specs.Numbers.{are_i64, HasWideNumber}
 use Rattle.schema_tree.specs.Document.{IsReadAs, HasFault}
 use Rattle.schema_tree.specs.Fault.{FaultD, memory}
 use Rattle.convert_walks.specs.Told.{faults_of, notes_of}
-use Rattle.typify_convert.specs.Levels.{most_levels}
-use Rattle.typify_convert.specs.Note.{note_of}
-use Rattle.typify_convert.specs.Emitted.{emission_of}
-use Rattle.typify_convert.specs.Unread.{unread_in_document}
+use Rattle.convert_document.specs.Levels.{most_levels}
+use Rattle.convert_document.specs.Note.{note_of}
+use Rattle.convert_document.specs.Emitted.{emission_of}
+use Rattle.convert_document.specs.Unread.{unread_in_document}
 use Rattle.derive_model.specs.Judging.{AreSound}
-use Rattle.typify_convert.specs.Refused as convert
+use Rattle.convert_document.specs.Refused as convert
 use Rattle.schema_tree.specs.Conversions.{conversions_view}
 use Rattle.attr_parts.specs.declared.derive.Derive.TheVariants.{Deserialize}
 use Rattle.derive_model.specs.Items.{private}

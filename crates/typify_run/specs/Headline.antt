@@ -27,9 +27,9 @@ use Rattle.reading_defs.specs.Laws.{defaults_are_sound}
 use Rattle.schema_tree.specs.Conversions.{conversions_view}
 use Rattle.emit_defs.specs.Emission.{Emission}
 use Rattle.derive_model.specs.VerdictView.{VerdictD, taken, refused, verdict_view}
-use Rattle.typify_convert.specs.declared.note.Way.{Way}
-use Rattle.typify_convert.specs.declared.note.Way.TheVariants.{Narrowed, Widened}
-use Rattle.typify_convert.specs.declared.note.Note.{Note}
+use Rattle.convert_document.specs.declared.note.Way.{Way}
+use Rattle.convert_document.specs.declared.note.Way.TheVariants.{Narrowed, Widened}
+use Rattle.convert_document.specs.declared.note.Note.{Note}
 use Rattle.typify_run.specs.declared.report.Report.{Report}
 
 -- how serde reads items: what rules make of names of variants and of fields, what its own module is called, and for which derive

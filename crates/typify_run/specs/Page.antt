@@ -8,9 +8,9 @@ use Rattle.derive_receiver.specs.Replaced.{replaced}
 use Rattle.item_texts.specs.Text.{item_text_of}
 use Rattle.serde_json.specs.Written.{compact_text, has_float}
 use Rattle.schema_defs.specs.Location.{Location, location_text}
-use Rattle.typify_convert.specs.Note.{way_text, kind_text}
+use Rattle.convert_document.specs.Note.{way_text, kind_text}
 use Rattle.derive_model.specs.VerdictView.{VerdictD, taken, refused, verdict_view}
-use Rattle.typify_convert.specs.declared.note.Note.{Note}
+use Rattle.convert_document.specs.declared.note.Note.{Note}
 use Rattle.typify_run.specs.declared.report.Report.{Report}
 use Rattle.typify_run.specs.declared.words.Command.{Command}
 use Rattle.typify_run.specs.declared.words.Command.TheVariants.{Check, Items}

@@ -21,13 +21,13 @@ ghost use Rattle.derive_model.specs.VerdictView.{verdict_view};
 use crate::judging::{check_numbers, verdicts};
 use crate::report::Report;
 use attr_parts::NoCase;
+use convert_document::converted;
 use derive_model::{Module, Verdict};
 use distinct_names::names_differ;
 use schema_tree::{Conversions, Document, Fault, Setting, Texts, check_values};
 use serde_json::Value;
 use std::alloc::Global;
 use syntax_trees::{DeriveInput, Ty};
-use typify_convert::converted;
 
 // The verdicts by items, whose stated defaults are sound.
 fn judged<T: Texts>(

@@ -8,6 +8,7 @@ mod report;
 mod top;
 mod words;
 
+pub use convert_document::{Note, NoteKind, Way};
 pub use derive_model::Verdict;
 pub use examination::{examine, examine_with};
 pub use outcome::Outcome;
@@ -19,5 +20,4 @@ pub use run_io::{
 };
 pub use schema_tree::Setting;
 pub use top::run;
-pub use typify_convert::{Note, NoteKind, Way};
 pub use whole_numbers::whole_numbers;

@@ -6,13 +6,13 @@ ghost use Rattle.derive_model.specs.VerdictView.{verdict_view, taken, refused};
 ghost use Rattle.typify_run.specs.Page.{page, page_of, items_page, item_line as item_line_of, item_lines, note_line as note_line_of, notes_text, value_line as value_line_of, verdict_line as verdict_line_of, verdict_lines, IsPrintable, ArePrintable};
 
 use crate::words::Command;
+use convert_document::Note;
 use derive_model::Verdict;
 use item_texts::replaced_text;
 use schema_tree::{Conversions, Location, json_string};
 use serde_json::Value;
 use std::alloc::{AllocError, Global};
 use syntax_trees::{DeriveInput, Ty};
-use typify_convert::Note;
 
 /// The items that stand for a schema, with the table of what attributes don't say, the type of the root, the notes,
 /// and a verdict for each listed value.

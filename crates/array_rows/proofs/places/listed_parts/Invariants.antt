@@ -2,7 +2,7 @@ use Rattle.std.proofs.Common.{◌≡◌, ◌++◌, ◌+◌, map, length}
 use Rattle.schema_defs.specs.Schema.{schemas}
 use Rattle.schema_types.specs.View.{schemas_view}
 use Rattle.convert_defs.specs.Owners.{listed_parts}
-use Rattle.row_types.specs.View.{part_view}
+use Rattle.row_findings.specs.View.{part_view}
 use Rattle.array_rows.proofs.places.listed_parts.Given as goal
 
 abbrev pub invariant-loop-schema : goal.invariant-loop-schema

@@ -6,19 +6,19 @@ use Rattle.schema_tree.specs.Document.{view as document_seen}
 use Rattle.schema_tree.specs.Fault.{fault_view}
 use Rattle.convert_defs.specs.Convert.{Handed, named_by}
 use Rattle.convert_defs.specs.Row.{Part, row_parts}
-use Rattle.entry_trees.specs.View.{tree_view}
+use Rattle.tree_types.specs.View.{tree_view}
 use Rattle.convert_walks.specs.Spot.{part_spot}
 use Rattle.convert_walks.specs.Told.{merge_note, placed_note}
 use Rattle.convert_walks.specs.Tree.{Standing as StandingOf, entry_at, tree_at}
 use Rattle.merged_rows.specs.Starts.{path_by, spot_of}
 use Rattle.merge_parts.specs.View.{notes_view as merge_notes_view}
-use Rattle.row_merges.specs.Merges.{end_view, merge_of_row, merge_view, merges_in, stands}
-use Rattle.row_types.specs.declared.part.Steps.{Steps}
-use Rattle.row_types.specs.Given.{source_view}
-use Rattle.row_types.specs.View.{branch_view, finding_view, part_view, row_view}
+use Rattle.document_merges.specs.Merges.{end_view, merge_of_row, merge_view, merges_in, stands}
+use Rattle.row_findings.specs.declared.part.Steps.{Steps}
+use Rattle.row_findings.specs.Given.{source_view}
+use Rattle.row_findings.specs.View.{branch_view, finding_view, part_view, row_view}
 use Rattle.row_trees.specs.Build.{built}
 use Rattle.convert_trees.specs.Keeping.{kept_view}
-use Rattle.row_merges.specs.Listed.{listed_view}
+use Rattle.document_merges.specs.Listed.{listed_view}
 use Rattle.convert_trees.specs.Told.{Begins, IsTold, IsToldOf, Refuses, RefusesOf, at_parts, at_schema}
 use Rattle.convert_trees.proofs.Ends.{if_err, none_from}
 use Rattle.convert_trees.proofs.Here.{begins_on, deep_on, entry_on, parts_here, plain_begins, plain_entry, refuses_on, told_here, told_on}

@@ -1,10 +1,10 @@
 use Rattle.std.proofs.Common.{◌≡◌, ◌≤◌, ◌+◌, ◌*◌, map, drop}
 use Rattle.std.specs.Prelude.{option_map, ◌++◌}
 use Rattle.schema_tree.specs.Document.{view as document_seen}
-use Rattle.entry_trees.specs.View.{tree_view}
+use Rattle.tree_types.specs.View.{tree_view}
 use Rattle.merged_rows.specs.Starts.{spot_of}
-use Rattle.row_types.specs.View.{branch_view}
-use Rattle.row_merges.specs.Listed.{listed_view}
+use Rattle.row_findings.specs.View.{branch_view}
+use Rattle.document_merges.specs.Listed.{listed_view}
 use Rattle.convert_trees.specs.Keeping.{kept_view}
 use Rattle.convert_trees.proofs.Parts.{all_nodes, part_entry}
 use Rattle.convert_trees.proofs.Telling.{Passed}

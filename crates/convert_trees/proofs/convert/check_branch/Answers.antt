@@ -4,7 +4,7 @@ use Rattle.merge_walks.specs.Carried.{Walk, has_more_steps}
 use Rattle.convert_walks.specs.Spot.{Spot}
 use Rattle.merged_rows.specs.declared.start.Start.{Start}
 use Rattle.merged_rows.specs.Starts.{spot_of, walk_by}
-use Rattle.row_types.specs.View.{branch_view}
+use Rattle.row_findings.specs.View.{branch_view}
 use Rattle.convert_trees.proofs.Branches.{one_cut, one_left}
 use Rattle.convert_trees.proofs.Ends.{if_err}
 use Rattle.convert_trees.proofs.Telling.{want_refuses}

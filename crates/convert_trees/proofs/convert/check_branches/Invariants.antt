@@ -4,7 +4,7 @@ use Rattle.schema_defs.specs.Schema.{Document}
 use Rattle.convert_defs.specs.Convert.{Handed}
 use Rattle.convert_walks.specs.Tree.{deep_branches}
 use Rattle.merged_rows.specs.Starts.{spot_of}
-use Rattle.row_types.specs.View.{branch_view}
+use Rattle.row_findings.specs.View.{branch_view}
 use Rattle.convert_trees.proofs.convert.check_branches.Given as goal
 
 abbrev pub invariant-loop-branch : goal.invariant-loop-branch

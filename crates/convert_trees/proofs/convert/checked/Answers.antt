@@ -1,7 +1,7 @@
 use Rattle.schema_tree.specs.Document.{view as document_seen}
 use Rattle.merged_rows.specs.Starts.{spot_of}
-use Rattle.row_types.specs.Given.{source_view}
-use Rattle.row_types.specs.View.{finding_view}
+use Rattle.row_findings.specs.Given.{source_view}
+use Rattle.row_findings.specs.View.{finding_view}
 use Rattle.convert_trees.proofs.Ends.{if_err}
 use Rattle.convert_trees.proofs.Here.{branches_here, own_here}
 use Rattle.convert_trees.proofs.Telling.{want_refuses}

@@ -1,7 +1,7 @@
 use Rattle.std.proofs.Common.{ap, ◌∙◌}
-use Rattle.entry_trees.specs.View.{tree_view}
-use Rattle.row_types.specs.View.{row_view}
-use Rattle.row_types.specs.Given.{source_view}
+use Rattle.tree_types.specs.View.{tree_view}
+use Rattle.row_findings.specs.View.{row_view}
+use Rattle.row_findings.specs.Given.{source_view}
 use Rattle.convert_trees.specs.Keeping.{kept_view, with_before_if}
 use Rattle.merged_rows.specs.Starts.{path_by}
 use Rattle.convert_trees.specs.Unread.{unread_of}

@@ -3,7 +3,7 @@ use Rattle.merge_defs.specs.Outcome.{depth, unsupported}
 use Rattle.merge_parts.specs.View.{unsupported_view}
 use Rattle.merged_rows.specs.Starts.{spot_of}
 use Rattle.merged_rows.specs.Told as merged
-use Rattle.row_merges.specs.Merges.{end_view, refused}
+use Rattle.document_merges.specs.Merges.{end_view, refused}
 use Rattle.convert_trees.proofs.Merged.{refused_so}
 use Rattle.convert_trees.proofs.convert.refused_merge.Goals as goal
 

@@ -1,4 +1,4 @@
-use Rattle.row_types.specs.View.{finding_view}
+use Rattle.row_findings.specs.View.{finding_view}
 use Rattle.convert_trees.proofs.Causes.{all_fine, first_refuses, row_refuses, second_refuses}
 use Rattle.convert_trees.proofs.Ends.{if_err}
 use Rattle.convert_trees.proofs.own.check_own.Goals as goal

@@ -3,8 +3,8 @@ use Rattle.schema_tree.specs.Fault.{fault_view}
 use Rattle.convert_defs.specs.Row.{Row}
 use Rattle.convert_defs.specs.Faults.{row_faults}
 use Rattle.convert_defs.specs.Table.{reference_row}
-use Rattle.row_types.specs.Given.{source_view}
-use Rattle.row_types.specs.View.{row_view}
+use Rattle.row_findings.specs.Given.{source_view}
+use Rattle.row_findings.specs.View.{row_view}
 use Rattle.merged_rows.specs.Starts.{path_by}
 use Rattle.convert_trees.specs.Told.{RowRefuses, without_memory}
 use Rattle.convert_trees.proofs.Causes.{row_refused}

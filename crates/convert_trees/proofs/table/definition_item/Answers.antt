@@ -7,7 +7,7 @@ use Rattle.convert_defs.specs.Convert.{as_item}
 use Rattle.convert_walks.specs.Spot.{Spot}
 use Rattle.convert_walks.specs.Tree.{entry_at, tree_at}
 use Rattle.convert_trees.specs.Keeping.{kept_view}
-use Rattle.row_merges.specs.Merges.{merges_in}
+use Rattle.document_merges.specs.Merges.{merges_in}
 use Rattle.convert_trees.specs.Told.{Begins, IsTold, Refuses}
 use Rattle.convert_trees.proofs.Ends.{if_err}
 use Rattle.convert_trees.proofs.Telling.{want_refuses}

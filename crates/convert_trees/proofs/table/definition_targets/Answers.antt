@@ -4,12 +4,12 @@ use Rattle.schema_defs.specs.Texts.{Relations}
 use Rattle.schema_types.specs.View.{schema_view}
 use Rattle.schema_tree.specs.Document.{view as document_seen}
 use Rattle.schema_tree.specs.Fault.{fault_view}
-use Rattle.entry_trees.specs.View.{target_entry, tree_view, item_in}
+use Rattle.tree_types.specs.View.{target_entry, tree_view, item_in}
 use Rattle.convert_defs.specs.Convert.{as_item}
 use Rattle.convert_walks.specs.Tree.{entry_at, tree_at}
-use Rattle.row_merges.specs.Definitions.{named_spot}
+use Rattle.document_merges.specs.Definitions.{named_spot}
 use Rattle.convert_trees.specs.Keeping.{kept_view}
-use Rattle.row_merges.specs.Merges.{merges_in}
+use Rattle.document_merges.specs.Merges.{merges_in}
 use Rattle.convert_trees.specs.Told.{Begins, IsTold, Refuses}
 use Rattle.convert_trees.proofs.Ends.{if_err}
 use Rattle.convert_trees.proofs.Documents.{Left, First, left_all, first_left, begins_here, body_of, goes_on, stops, all_done, all_told}

@@ -1,7 +1,7 @@
 use Rattle.std.proofs.Common.{◌≡◌, ◌≤◌, length, map}
 use Rattle.schema_defs.specs.Laws.{NamesRise}
 use Rattle.schema_tree.specs.Document.{view as document_seen}
-use Rattle.entry_trees.specs.View.{target_entry}
+use Rattle.tree_types.specs.View.{target_entry}
 use Rattle.convert_trees.specs.Keeping.{kept_view}
 use Rattle.convert_trees.proofs.Documents.{Left}
 use Rattle.convert_trees.proofs.table.definition_targets.Given as goal

@@ -1,7 +1,7 @@
 use Rattle.std.proofs.Common.{ap, sym, ◌∙◌}
 use Rattle.std.specs.Prelude.{option_map}
 use Rattle.schema_tree.specs.Document.{view as document_seen}
-use Rattle.entry_trees.specs.View.{table_view}
+use Rattle.tree_types.specs.View.{table_view}
 use Rattle.convert_walks.specs.Tree.{document_tree}
 use Rattle.convert_trees.specs.Keeping.{unread_view}
 use Rattle.convert_trees.proofs.Roots.{none_listed}

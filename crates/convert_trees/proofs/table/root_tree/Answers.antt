@@ -1,7 +1,7 @@
 use Rattle.std.specs.Prelude.{Some}
 use Rattle.schema_types.specs.View.{schema_view}
 use Rattle.schema_tree.specs.Document.{view as document_seen}
-use Rattle.entry_trees.specs.View.{tree_view}
+use Rattle.tree_types.specs.View.{tree_view}
 use Rattle.convert_trees.proofs.Ends.{if_err}
 use Rattle.convert_trees.proofs.Telling.{want_refuses}
 use Rattle.convert_trees.proofs.Roots.{root_begins, root_converted, root_told, root_refused}

@@ -1,10 +1,10 @@
 use Rattle.std.proofs.Common.{◌≡◌, ap, subst, sym, ◌∙◌}
 use Rattle.std.specs.Prelude.{None, option_map}
 use Rattle.schema_tree.specs.Document.{view as document_seen}
-use Rattle.entry_trees.specs.View.{table_view}
+use Rattle.tree_types.specs.View.{table_view}
 use Rattle.schema_defs.specs.Texts.{Relations}
 use Rattle.convert_walks.specs.Tree.{document_tree}
-use Rattle.row_merges.specs.Merges.{merges_in, merges_view}
+use Rattle.document_merges.specs.Merges.{merges_in, merges_view}
 use Rattle.convert_trees.specs.Keeping.{KeptD, kept_view, unread_view}
 use Rattle.convert_trees.proofs.Ends.{if_err}
 use Rattle.convert_trees.proofs.Roots.{begins_all, is_faultless, all_notes, all_values, unread_whole, refuses_later}

@@ -1,6 +1,6 @@
 use Rattle.std.proofs.Common.{map}
 use Rattle.schema_tree.specs.Document.{view as document_seen}
-use Rattle.entry_trees.specs.View.{table_view, target_entry, tree_view}
+use Rattle.tree_types.specs.View.{table_view, target_entry, tree_view}
 use Rattle.convert_trees.proofs.Ends.{if_err}
 use Rattle.convert_trees.proofs.Roots.{begins_definitions, begins_root, definitions_refuse, root_refuses, whole_table, whole_told}
 use Rattle.convert_trees.proofs.Telling.{want_refuses}

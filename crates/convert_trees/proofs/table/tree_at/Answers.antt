@@ -4,9 +4,9 @@ use Rattle.schema_tree.specs.Document.{view as document_seen}
 use Rattle.schema_tree.specs.Fault.{fault_view}
 use Rattle.convert_walks.specs.Tree.{entry_at, tree_at}
 use Rattle.merged_rows.specs.Starts.{spot_of}
-use Rattle.row_types.specs.declared.part.Steps.{Steps}
+use Rattle.row_findings.specs.declared.part.Steps.{Steps}
 use Rattle.convert_trees.specs.Keeping.{kept_view}
-use Rattle.row_merges.specs.Merges.{merges_in}
+use Rattle.document_merges.specs.Merges.{merges_in}
 use Rattle.convert_trees.specs.Told.{Begins, IsTold, Refuses}
 use Rattle.convert_trees.proofs.Ends.{if_err}
 use Rattle.convert_trees.proofs.table.tree_at.Goals as goal

@@ -1,7 +1,7 @@
 use Rattle.std.proofs.Common.{ap, ◌∙◌}
 use Rattle.std.specs.Prelude.{Some}
 use Rattle.schema_tree.specs.Document.{view as document_seen}
-use Rattle.entry_trees.specs.View.{table_view}
+use Rattle.tree_types.specs.View.{table_view}
 use Rattle.convert_trees.specs.Keeping.{KeptD, kept_view}
 use Rattle.convert_trees.proofs.Roots.{all_values, begins_all}
 use Rattle.convert_trees.proofs.table.unread_by_table.Goals as goal

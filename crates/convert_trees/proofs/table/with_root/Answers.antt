@@ -1,6 +1,6 @@
 use Rattle.std.proofs.Common.{map, sym, ap, ◌∙◌}
 use Rattle.convert_defs.specs.Convert.{root_name}
-use Rattle.entry_trees.specs.View.{table_view, target_entry, tree_view}
+use Rattle.tree_types.specs.View.{table_view, target_entry, tree_view}
 use Rattle.convert_trees.proofs.Roots.{plain_so, used_so}
 use Rattle.convert_trees.proofs.table.with_root.Goals as goal
 

@@ -1,7 +1,7 @@
 use Rattle.std.proofs.Common.{[], ◌∷◌, ◌++◌, map, ap, ◌∙◌}
 use Rattle.entry_defs.specs.Entry.{Entry, the_root}
 use Rattle.entry_defs.specs.Table.{ItemEntry}
-use Rattle.entry_trees.specs.View.{target_entry, tree_view}
+use Rattle.tree_types.specs.View.{target_entry, tree_view}
 use Rattle.convert_trees.proofs.Roots.{both_parts}
 use Rattle.convert_trees.proofs.table.with_used_root.Goals as goal
 

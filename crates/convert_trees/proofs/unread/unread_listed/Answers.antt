@@ -1,7 +1,7 @@
 use Rattle.std.proofs.Common.{sym, ◌∙◌}
 use Rattle.convert_defs.specs.Values.{inner_of}
-use Rattle.entry_trees.specs.View.{tree_view}
-use Rattle.row_types.specs.View.{row_view, rule_view}
+use Rattle.tree_types.specs.View.{tree_view}
+use Rattle.row_findings.specs.View.{row_view, rule_view}
 use Rattle.convert_trees.specs.Keeping.{values_view}
 use Rattle.convert_trees.proofs.Ruled.{if_ok_mapped, none_unread, rule_unread}
 use Rattle.convert_trees.proofs.unread.unread_listed.Goals as goal

@@ -3,10 +3,10 @@ use Rattle.std.proofs.Common.{sym, ap, ◌∙◌}
 use Rattle.schema_defs.specs.Texts.{Relations}
 use Rattle.schema_types.specs.View.{kept_view as value_kept}
 use Rattle.convert_defs.specs.Owners.{default_of}
-use Rattle.row_types.specs.Given.{source_view}
-use Rattle.row_types.specs.View.{row_view}
-use Rattle.entry_trees.specs.View.{tree_view}
-use Rattle.scalar_takes.specs.Unread.{first_of as first_value}
+use Rattle.row_findings.specs.Given.{source_view}
+use Rattle.row_findings.specs.View.{row_view}
+use Rattle.tree_types.specs.View.{tree_view}
+use Rattle.listed_reading.specs.Unread.{first_of as first_value}
 use Rattle.convert_trees.specs.Keeping.{values_view}
 use Rattle.convert_trees.specs.Unread.{is_given, stated_default}
 use Rattle.convert_trees.proofs.Ends.{none_from}

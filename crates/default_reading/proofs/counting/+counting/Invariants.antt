@@ -1,6 +1,6 @@
 use Rattle.std.proofs.Common.{◌≡◌, ◌+◌, drop, option_map}
 use Rattle.entry_defs.specs.Entry.{no_fields}
-use Rattle.entry_trees.specs.View.{fields_view, parts_of}
+use Rattle.tree_types.specs.View.{fields_view, parts_of}
 use Rattle.default_defs.specs.Supplied.{stated_in_entries, stated_in_fields}
 use Rattle.default_reading.specs.Counts.{stated_in_cases}
 use Rattle.default_reading.specs.Seen.{places_in}

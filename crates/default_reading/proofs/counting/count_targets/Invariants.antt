@@ -1,5 +1,5 @@
 use Rattle.std.proofs.Common.{◌≡◌, ◌+◌, drop, map}
-use Rattle.entry_trees.specs.View.{target_entry}
+use Rattle.tree_types.specs.View.{target_entry}
 use Rattle.default_defs.specs.Supplied.{stated_in_targets}
 use Rattle.default_reading.proofs.counting.count_targets.Given as goal
 

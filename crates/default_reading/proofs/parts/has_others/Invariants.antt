@@ -1,7 +1,7 @@
 use Rattle.std.proofs.Common.{◌≡◌, Option, option_map}
 use Rattle.serde_json.specs.View.{members_view}
 use Rattle.json_value.specs.View.{members_of}
-use Rattle.entry_trees.specs.declared.tree.Tree.{Tree}
+use Rattle.tree_types.specs.declared.tree.Tree.{Tree}
 use Rattle.default_reading.specs.Seen.{listed}
 use Rattle.default_reading.specs.Steps.{has_others}
 use Rattle.default_reading.proofs.parts.has_others.Given as goal

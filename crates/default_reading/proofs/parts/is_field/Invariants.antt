@@ -1,6 +1,6 @@
 use Rattle.std.proofs.Common.{◌≡◌, Option, drop}
 use Rattle.entry_defs.specs.Layer.{is_field}
-use Rattle.entry_trees.specs.declared.tree.Tree.{Tree}
+use Rattle.tree_types.specs.declared.tree.Tree.{Tree}
 use Rattle.default_reading.specs.Seen.{listed}
 use Rattle.default_reading.proofs.parts.is_field.Given as goal
 

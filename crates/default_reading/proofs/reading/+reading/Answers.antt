@@ -5,8 +5,8 @@ use Rattle.json_value.specs.View.{items_of, members_of}
 use Rattle.schema_types.specs.View.{kept_view}
 use Rattle.entry_defs.specs.Entry.{any_entry, entries_of, enum_shape, fields_of, item, rest_of}
 use Rattle.entry_defs.specs.Layer.{contents_entry, rule_holds}
-use Rattle.row_types.specs.View.{state_view, tag_view}
-use Rattle.entry_trees.specs.View.{contents_view, first_part, label_view, parts_of, rule_view, table_view, target_view, tree_view, wrapped}
+use Rattle.row_findings.specs.View.{state_view, tag_view}
+use Rattle.tree_types.specs.View.{contents_view, first_part, label_view, parts_of, rule_view, table_view, target_view, tree_view, wrapped}
 use Rattle.default_defs.specs.Found.{both}
 use Rattle.default_defs.specs.Layer.{left_out}
 use Rattle.default_reading.specs.Seen.{content, case_named, entry_of, fields_in, first_tree, found_view, front_tree, listed, places_in, rest_tree, variants_in}

@@ -4,8 +4,8 @@ use Rattle.json_value.specs.Value.{value_size, items_size, members_size}
 use Rattle.json_value.specs.View.{items_of, members_of}
 use Rattle.schema_types.specs.View.{kept_view}
 use Rattle.entry_defs.specs.Entry.{entries_of, fields_of, rest_of}
-use Rattle.row_types.specs.View.{state_view}
-use Rattle.entry_trees.specs.View.{table_view, tree_view}
+use Rattle.row_findings.specs.View.{state_view}
+use Rattle.tree_types.specs.View.{table_view, tree_view}
 use Rattle.default_defs.specs.Found.{both}
 use Rattle.default_reading.specs.Seen.{contents_in, fields_in, found_view, listed, places_in}
 use Rattle.default_reading.specs.Steps.{setting, items_come, places_come, members_come, fields_come, others_come, first_comes}

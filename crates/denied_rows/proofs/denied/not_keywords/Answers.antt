@@ -1,7 +1,7 @@
 use Rattle.std.proofs.Common.{rules, ◌≡◌, [], Some, option_map, sym, ap, ◌∙◌}
 use Rattle.std.specs.Prelude.{string_bytes}
 use Rattle.convert_defs.specs.Standing.{words_or}
-use Rattle.row_types.specs.Given.{plain_view, same_view, lists_view, named_view, given_values_view}
+use Rattle.row_findings.specs.Given.{plain_view, same_view, lists_view, named_view, given_values_view}
 use Rattle.denied_rows.proofs.UnderNot.{listed_seen}
 use Rattle.denied_rows.proofs.denied.not_keywords.Goals as goal
 

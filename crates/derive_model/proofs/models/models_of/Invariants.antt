@@ -1,7 +1,7 @@
 use Rattle.std.proofs.Common.{◌≡◌, ◌++◌, map, drop, option_map}
 use Rattle.std.specs.List.{filter_map}
 use Rattle.container_defs.specs.Reader.{reader_model}
-use Rattle.container_readers.specs.Views.{container_view}
+use Rattle.derive_ast.specs.Views.{container_view}
 use Rattle.value_models.specs.ContainerView.{containers_view}
 use Rattle.derive_model.proofs.models.models_of.Given as goal
 

@@ -2,7 +2,7 @@ use Rattle.std.proofs.Common.{◌≡◌, map, drop, option_map}
 use Rattle.syntax_trees.specs.Item.{item_view}
 use Rattle.schema_tree.specs.Conversions.{conversions_view}
 use Rattle.container_defs.specs.Forms.{names_of, leaves_forms}
-use Rattle.container_readers.specs.Views.{container_view}
+use Rattle.derive_ast.specs.Views.{container_view}
 use Rattle.derive_model.specs.Items.{first_from}
 use Rattle.derive_model.proofs.outside.first_outside.Given as goal
 

@@ -1,6 +1,6 @@
 use Rattle.std.proofs.Common.{option_map}
 use Rattle.syntax_trees.specs.Item.{item_view}
-use Rattle.container_readers.specs.Views.{container_view}
+use Rattle.derive_ast.specs.Views.{container_view}
 use Rattle.derive_model.specs.Items.{read_of, told_of}
 use Rattle.derive_model.proofs.ReadItems.{item_told, item_read}
 use Rattle.derive_model.proofs.read.read_all.Goals as goal

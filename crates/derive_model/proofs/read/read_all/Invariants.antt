@@ -1,7 +1,7 @@
 use Rattle.std.proofs.Common.{◌≡◌, ◌++◌, map, drop, option_map}
 use Rattle.syntax_trees.specs.Item.{item_view}
 use Rattle.attr_parts.specs.Diagnostics.{diagnostics}
-use Rattle.container_readers.specs.Views.{container_view}
+use Rattle.derive_ast.specs.Views.{container_view}
 use Rattle.derive_model.specs.Items.{read_of, all_told}
 use Rattle.derive_model.proofs.read.read_all.Given as goal
 

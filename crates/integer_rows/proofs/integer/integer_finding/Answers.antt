@@ -2,8 +2,8 @@ use Rattle.std.proofs.Common.{◌≡◌, ◌++◌, map, ap, ◌∙◌}
 use Rattle.convert_defs.specs.Row.{here, widened, narrowed, integer_note}
 use Rattle.convert_defs.specs.IntegerRow.{note_if}
 use Rattle.entry_types.specs.View.{integer_view}
-use Rattle.row_types.specs.Given.{plain_view}
-use Rattle.row_types.specs.View.{note_view}
+use Rattle.row_findings.specs.Given.{plain_view}
+use Rattle.row_findings.specs.View.{note_view}
 use Rattle.integer_rows.proofs.Whole.{IsKept, row-is}
 use Rattle.integer_rows.proofs.integer.integer_finding.Goals as goal
 

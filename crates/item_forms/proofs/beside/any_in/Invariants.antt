@@ -1,6 +1,6 @@
 use Rattle.std.proofs.Common.{◌≡◌, map, drop}
 use Rattle.std.specs.List.{list_any}
-use Rattle.container_readers.specs.Views.{variant_view}
+use Rattle.derive_ast.specs.Views.{variant_view}
 use Rattle.item_forms.specs.ListTests.{list_test}
 use Rattle.item_forms.proofs.beside.any_in.Given as goal
 

@@ -1,6 +1,6 @@
 use Rattle.std.proofs.Common.{◌≡◌, map, drop}
 use Rattle.container_defs.specs.Forms.{rests}
-use Rattle.container_readers.specs.Views.{field_view}
+use Rattle.derive_ast.specs.Views.{field_view}
 use Rattle.item_forms.specs.Counts.{count_of}
 use Rattle.item_forms.proofs.Rests.{more}
 use Rattle.item_forms.proofs.beside.count_rests.Given as goal

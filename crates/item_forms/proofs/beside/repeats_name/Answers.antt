@@ -1,4 +1,4 @@
-use Rattle.container_readers.specs.Views.{field_view}
+use Rattle.derive_ast.specs.Views.{field_view}
 use Rattle.item_forms.proofs.Named.{new_seen}
 use Rattle.item_forms.proofs.beside.repeats_name.Goals as goal
 

@@ -1,6 +1,6 @@
 use Rattle.std.proofs.Common.{◌≡◌, map, drop}
 use Rattle.container_defs.specs.Forms.{repeats_name}
-use Rattle.container_readers.specs.Views.{field_view}
+use Rattle.derive_ast.specs.Views.{field_view}
 use Rattle.item_forms.proofs.Named.{repeats_beside}
 use Rattle.item_forms.proofs.beside.repeats_name.Given as goal
 

@@ -2,7 +2,7 @@ use Rattle.std.proofs.Common.{◌≡◌, map, drop, not}
 use Rattle.std.specs.List.{list_any}
 use Rattle.attr_parts.specs.Values.{tag_view}
 use Rattle.container_defs.specs.Forms.{stands_beside}
-use Rattle.container_readers.specs.Views.{variant_view}
+use Rattle.derive_ast.specs.Views.{variant_view}
 use Rattle.item_forms.proofs.container_test.any_elsewhere.Given as goal
 
 abbrev pub invariant-loop-variant : goal.invariant-loop-variant

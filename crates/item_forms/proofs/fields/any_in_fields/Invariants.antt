@@ -2,7 +2,7 @@ use Rattle.std.proofs.Common.{◌≡◌, map, drop}
 use Rattle.std.specs.List.{list_any}
 use Rattle.syntax_trees.specs.Item.{item_view}
 use Rattle.container_defs.specs.Forms.{names_of}
-use Rattle.container_readers.specs.Views.{field_view}
+use Rattle.derive_ast.specs.Views.{field_view}
 use Rattle.item_forms.specs.FieldTests.{field_test}
 use Rattle.item_forms.proofs.fields.any_in_fields.Given as goal
 

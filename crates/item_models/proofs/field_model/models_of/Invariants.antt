@@ -1,6 +1,6 @@
 use Rattle.std.proofs.Common.{◌≡◌, take, map}
 use Rattle.container_defs.specs.Reader.{field_model}
-use Rattle.container_readers.specs.Views.{field_view as read_view}
+use Rattle.derive_ast.specs.Views.{field_view as read_view}
 use Rattle.value_models.specs.FieldView.{fields_view}
 use Rattle.item_models.proofs.field_model.models_of.Given as goal
 

@@ -1,6 +1,6 @@
 use Rattle.std.proofs.Common.{◌≡◌, take, map}
 use Rattle.container_defs.specs.Reader.{variant_model}
-use Rattle.container_readers.specs.Views.{variant_view as read_view}
+use Rattle.derive_ast.specs.Views.{variant_view as read_view}
 use Rattle.value_models.specs.VariantView.{variants_view}
 use Rattle.item_models.proofs.variant_model.models_of.Given as goal
 

@@ -1,6 +1,6 @@
 use Rattle.std.proofs.Common.{◌≡◌, drop, option_map, sym, ap, ◌∙◌}
 use Rattle.type_rows.specs.Line.{first_found, held_view}
-use Rattle.row_types.specs.Given.{plain_view, same_view, lists_view, named_view}
+use Rattle.row_findings.specs.Given.{plain_view, same_view, lists_view, named_view}
 use Rattle.line_rows.specs.Runs.{third_lines}
 use Rattle.line_rows.proofs.Found.{taken, passed}
 use Rattle.line_rows.proofs.runs.from_untyped_arrays.Goals as goal

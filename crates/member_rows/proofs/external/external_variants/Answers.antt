@@ -2,7 +2,7 @@ use Rattle.std.proofs.Common.{◌≡◌, map, option_map, sym, ap, ◌∙◌}
 use Rattle.enum_defs.specs.Shapes.{external_shape}
 use Rattle.enum_shapes.specs.View.{case_view}
 use Rattle.convert_defs.specs.Shapes.{external_rows}
-use Rattle.row_types.specs.View.{variant_view}
+use Rattle.row_findings.specs.View.{variant_view}
 use Rattle.member_rows.specs.Members.{member_view}
 use Rattle.member_rows.proofs.OwnVariants.{members_found}
 use Rattle.member_rows.proofs.external.external_variants.Goals as goal

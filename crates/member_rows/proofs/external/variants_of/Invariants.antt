@@ -1,6 +1,6 @@
 use Rattle.std.proofs.Common.{◌≡◌, ◌++◌, map, drop}
 use Rattle.std.specs.Prelude.{flat_map}
-use Rattle.row_types.specs.View.{variant_view}
+use Rattle.row_findings.specs.View.{variant_view}
 use Rattle.member_rows.specs.Members.{member_view, own_rows}
 use Rattle.member_rows.proofs.external.variants_of.Given as goal
 

@@ -1,7 +1,7 @@
 use Rattle.std.proofs.Common.{◌≡◌, ◌++◌, map, drop}
 use Rattle.enum_shapes.specs.View.{case_view}
 use Rattle.convert_defs.specs.Shapes.{case_row}
-use Rattle.row_types.specs.View.{variant_view}
+use Rattle.row_findings.specs.View.{variant_view}
 use Rattle.member_rows.specs.Members.{member_view}
 use Rattle.member_rows.proofs.external.with_cases.Given as goal
 

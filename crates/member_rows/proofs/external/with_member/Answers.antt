@@ -3,7 +3,7 @@ use Rattle.enum_defs.specs.Shapes.{external_shape}
 use Rattle.enum_shapes.specs.View.{case_view}
 use Rattle.schema_types.specs.View.{schemas_view}
 use Rattle.convert_defs.specs.Shapes.{case_row}
-use Rattle.row_types.specs.View.{variant_view}
+use Rattle.row_findings.specs.View.{variant_view}
 use Rattle.member_rows.specs.Members.{member_view}
 use Rattle.member_rows.proofs.OwnVariants.{own_told, own_none}
 use Rattle.member_rows.proofs.external.with_member.Goals as goal

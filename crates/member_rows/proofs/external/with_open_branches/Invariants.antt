@@ -1,6 +1,6 @@
 use Rattle.std.proofs.Common.{◌≡◌, ◌++◌, map, drop}
 use Rattle.convert_defs.specs.Table.{open_branches}
-use Rattle.row_types.specs.View.{note_view}
+use Rattle.row_findings.specs.View.{note_view}
 use Rattle.member_rows.specs.Members.{member_view}
 use Rattle.member_rows.proofs.external.with_open_branches.Given as goal
 

@@ -1,5 +1,5 @@
 use Rattle.std.proofs.Common.{◌≡◌, ◌++◌, map, drop}
-use Rattle.row_types.specs.View.{note_view}
+use Rattle.row_findings.specs.View.{note_view}
 use Rattle.member_rows.specs.Members.{member_view, ruled_branches}
 use Rattle.member_rows.proofs.external.with_text_branches.Given as goal
 

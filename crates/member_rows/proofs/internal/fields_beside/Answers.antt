@@ -4,7 +4,7 @@ use Rattle.enum_defs.specs.Words.{props_of, required_of}
 use Rattle.convert_defs.specs.Row.{FieldRow}
 use Rattle.convert_defs.specs.Shapes.{placed_field, less_property}
 use Rattle.convert_defs.specs.Owners.{property_fields}
-use Rattle.row_types.specs.View.{field_view}
+use Rattle.row_findings.specs.View.{field_view}
 use Rattle.object_rows.proofs.MemberViews.{members_seen}
 use Rattle.member_rows.specs.Members.{member_view}
 use Rattle.member_rows.proofs.internal.fields_beside.Goals as goal

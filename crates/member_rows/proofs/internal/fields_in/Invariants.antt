@@ -2,7 +2,7 @@ use Rattle.std.proofs.Common.{◌≡◌, ◌++◌, map, string_bytes}
 use Rattle.schema_types.specs.View.{properties_view}
 use Rattle.convert_defs.specs.Shapes.{placed_field, less_property}
 use Rattle.convert_defs.specs.Owners.{property_fields}
-use Rattle.row_types.specs.View.{field_view}
+use Rattle.row_findings.specs.View.{field_view}
 use Rattle.member_rows.specs.Members.{member_view}
 use Rattle.member_rows.proofs.internal.fields_in.Given as goal
 

@@ -1,5 +1,5 @@
 use Rattle.std.proofs.Common.{◌≡◌, ◌++◌, map, drop}
-use Rattle.row_types.specs.View.{branch_view}
+use Rattle.row_findings.specs.View.{branch_view}
 use Rattle.member_rows.specs.Members.{member_view}
 use Rattle.member_rows.proofs.members.branches_of.Given as goal
 

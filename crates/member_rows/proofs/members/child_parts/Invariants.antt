@@ -1,6 +1,6 @@
 use Rattle.std.proofs.Common.{◌≡◌, ◌++◌, map, drop}
 use Rattle.convert_defs.specs.Table.{member_part}
-use Rattle.row_types.specs.View.{part_view}
+use Rattle.row_findings.specs.View.{part_view}
 use Rattle.member_rows.specs.Members.{member_view}
 use Rattle.member_rows.proofs.members.child_parts.Given as goal
 

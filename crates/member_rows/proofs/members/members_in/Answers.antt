@@ -1,5 +1,5 @@
 use Rattle.std.proofs.Common.{◌≡◌, length, refl, sym, ◌∙◌}
-use Rattle.row_types.specs.View.{keyword_view}
+use Rattle.row_findings.specs.View.{keyword_view}
 use Rattle.member_rows.proofs.Places.{members_more, counted_more, members_done}
 use Rattle.member_rows.proofs.members.members_in.Goals as goal
 

@@ -2,7 +2,7 @@ use Rattle.std.proofs.Common.{◌≡◌, ◌++◌, ◌+◌, map, length}
 use Rattle.schema_defs.specs.Schema.{schemas}
 use Rattle.schema_types.specs.View.{schemas_view}
 use Rattle.convert_defs.specs.Shapes.{members_from}
-use Rattle.row_types.specs.View.{keyword_view}
+use Rattle.row_findings.specs.View.{keyword_view}
 use Rattle.member_rows.specs.Members.{member_view}
 use Rattle.member_rows.proofs.members.members_in.Given as goal
 

@@ -1,6 +1,6 @@
 use Rattle.std.proofs.Common.{◌≡◌, ◌++◌, map, drop}
 use Rattle.convert_defs.specs.Table.{untagged_variant}
-use Rattle.row_types.specs.View.{variant_view}
+use Rattle.row_findings.specs.View.{variant_view}
 use Rattle.member_rows.specs.Members.{member_view}
 use Rattle.member_rows.proofs.members.untagged_variants.Given as goal
 

@@ -1,6 +1,6 @@
 use Rattle.std.proofs.Common.{◌≡◌}
 use Rattle.schema_types.specs.View.{members_view}
-use Rattle.row_types.proofs.Seen.{seen}
+use Rattle.row_findings.proofs.Seen.{seen}
 use Rattle.member_rows.proofs.tagged.given_members.Goals as goal
 
 pub returns : goal.returns

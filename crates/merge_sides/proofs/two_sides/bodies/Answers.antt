@@ -3,7 +3,7 @@ use Rattle.json_value.specs.Value.{null}
 use Rattle.schema_defs.specs.Admits.{counts_as_absent}
 use Rattle.schema_types.specs.View.{object_view}
 use Rattle.schema_types.specs.DocumentView.{document_view}
-use Rattle.merge_alike.specs.Parts.{plain_in}
+use Rattle.schema_sameness.specs.Parts.{plain_in}
 use Rattle.merge_steps.proofs.Ending.{memory_goes}
 use Rattle.merge_steps.proofs.Leading.{leads_by, led_goes}
 use Rattle.merge_sides.specs.Leaves.{leaves_then}

@@ -1,6 +1,6 @@
 use Rattle.std.proofs.Common.{ap, ◌∙◌}
 use Rattle.schema_types.specs.View.{schema_view}
-use Rattle.row_types.specs.Given.{source_view}
+use Rattle.row_findings.specs.Given.{source_view}
 use Rattle.merged_rows.proofs.Standings.{boolean_stands}
 use Rattle.merged_rows.proofs.Written.{boolean_seen}
 use Rattle.merged_rows.proofs.answered.answered.Goals as goal

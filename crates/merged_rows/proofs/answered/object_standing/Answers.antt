@@ -1,9 +1,9 @@
 use Rattle.std.proofs.Common.{ap, ◌∙◌, rules, ◌≡◌}
 use Rattle.schema_types.specs.View.{object_view, schema_view}
-use Rattle.row_types.specs.Given.{source_view}
+use Rattle.row_findings.specs.Given.{source_view}
 use Rattle.convert_walks.specs.Spot.{is_made_schema}
 use Rattle.convert_walks.specs.Tree.{plain_of}
-use Rattle.merge_carried.proofs.Objects.{object_seen}
+use Rattle.merge_walked.proofs.Objects.{object_seen}
 use Rattle.merged_rows.specs.Rows.{annotated_by, own_walk_in}
 use Rattle.merged_rows.specs.Starts.{spot_of}
 use Rattle.merged_rows.proofs.Standings.{object_stands}

@@ -2,7 +2,7 @@ use Rattle.std.proofs.Common.{◌≡◌, ◌++◌, None, drop, map}
 use Rattle.schema_defs.specs.Schema.{schemas, schema_list}
 use Rattle.schema_types.specs.View.{schemas_view}
 use Rattle.convert_walks.specs.Merging.{carried_parts}
-use Rattle.row_types.specs.View.{part_view}
+use Rattle.row_findings.specs.View.{part_view}
 use Rattle.merged_rows.specs.Starts.{spot_of}
 use Rattle.merged_rows.proofs.merging.carried_all.Given as goal
 

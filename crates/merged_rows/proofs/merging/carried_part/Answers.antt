@@ -1,7 +1,7 @@
 use Rattle.std.proofs.Common.{ap, map}
 use Rattle.schema_types.specs.View.{schema_view}
-use Rattle.row_types.specs.Given.{source_view}
-use Rattle.row_types.specs.View.{branch_view, steps_view}
+use Rattle.row_findings.specs.Given.{source_view}
+use Rattle.row_findings.specs.View.{branch_view, steps_view}
 use Rattle.merged_rows.proofs.Merges.{part_carried}
 use Rattle.merged_rows.proofs.merging.carried_part.Goals as goal
 

@@ -1,6 +1,6 @@
 use Rattle.std.proofs.Common.{◌≡◌, ◌++◌, None, drop, map}
 use Rattle.convert_walks.specs.Told.{placed_note}
-use Rattle.row_types.specs.View.{branch_view, note_view}
+use Rattle.row_findings.specs.View.{branch_view, note_view}
 use Rattle.merged_rows.specs.Starts.{spot_of}
 use Rattle.note_order.specs.Notes.{notes_view}
 use Rattle.merged_rows.proofs.notes.push_row_notes.Given as goal

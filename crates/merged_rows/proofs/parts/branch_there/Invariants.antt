@@ -1,6 +1,6 @@
 use Rattle.std.proofs.Common.{◌≡◌, drop, map}
 use Rattle.convert_walks.specs.Spot.{branch_at}
-use Rattle.row_types.specs.View.{branch_view}
+use Rattle.row_findings.specs.View.{branch_view}
 use Rattle.merged_rows.proofs.parts.branch_there.Given as goal
 
 abbrev pub invariant-loop-branch : goal.invariant-loop-branch

@@ -1,6 +1,6 @@
 use Rattle.std.proofs.Common.{map}
-use Rattle.row_types.specs.Given.{source_view}
-use Rattle.row_types.specs.View.{branch_view, steps_view}
+use Rattle.row_findings.specs.Given.{source_view}
+use Rattle.row_findings.specs.View.{branch_view, steps_view}
 use Rattle.merged_rows.proofs.Inside.{in_branch}
 use Rattle.merged_rows.proofs.parts.place_in_branch.Goals as goal
 

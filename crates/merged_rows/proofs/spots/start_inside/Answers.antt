@@ -1,6 +1,6 @@
 use Rattle.std.proofs.Common.{◌≡◌, Some, ◌∙◌, rules}
-use Rattle.row_types.specs.Given.{source_view}
-use Rattle.row_types.specs.View.{steps_view}
+use Rattle.row_findings.specs.Given.{source_view}
+use Rattle.row_findings.specs.View.{steps_view}
 use Rattle.merged_rows.specs.Starts.{spot_of, walk_in}
 use Rattle.merged_rows.proofs.Inside.{spot_walked}
 use Rattle.merged_rows.proofs.spots.start_inside.Goals as goal

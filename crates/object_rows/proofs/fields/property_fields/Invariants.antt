@@ -1,7 +1,7 @@
 use Rattle.std.proofs.Common.{◌≡◌, ◌++◌, map, string_bytes}
 use Rattle.schema_types.specs.View.{properties_view}
 use Rattle.convert_defs.specs.Owners.{property_fields}
-use Rattle.row_types.specs.View.{field_view}
+use Rattle.row_findings.specs.View.{field_view}
 use Rattle.object_rows.proofs.fields.property_fields.Given as goal
 
 abbrev pub invariant-loop-name : goal.invariant-loop-name

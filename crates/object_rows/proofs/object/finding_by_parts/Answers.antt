@@ -2,7 +2,7 @@ use Rattle.std.proofs.Common.{◌≡◌, ◌++◌, map, ap, ◌∙◌}
 use Rattle.schema_types.specs.View.{members_view}
 use Rattle.convert_defs.specs.Row.{here, widened, counts_note}
 use Rattle.convert_defs.specs.IntegerRow.{note_if}
-use Rattle.row_types.specs.View.{note_view}
+use Rattle.row_findings.specs.View.{note_view}
 use Rattle.object_rows.specs.Parts.{found_with}
 use Rattle.object_rows.proofs.Notes.{notes_before}
 use Rattle.object_rows.proofs.object.finding_by_parts.Goals as goal

@@ -2,7 +2,7 @@ use Rattle.std.proofs.Common.{◌≡◌, map, sym, ap, ◌∙◌}
 use Rattle.schema_defs.specs.Schema.{Named}
 use Rattle.convert_defs.specs.Row.{noted}
 use Rattle.convert_defs.specs.Owners.{map_of}
-use Rattle.row_types.specs.View.{note_view}
+use Rattle.row_findings.specs.View.{note_view}
 use Rattle.object_rows.specs.Parts.{rest_in, names_in}
 use Rattle.object_rows.proofs.MemberViews.{members_seen}
 use Rattle.object_rows.proofs.object.map_finding.Goals as goal

@@ -2,7 +2,7 @@ use Rattle.std.proofs.Common.{◌≡◌, map, option_map, sym, ap, ◌∙◌}
 use Rattle.schema_types.specs.View.{members_view, named_of}
 use Rattle.convert_defs.specs.Row.{add_notes}
 use Rattle.convert_defs.specs.Owners.{object_finding}
-use Rattle.row_types.specs.View.{note_view}
+use Rattle.row_findings.specs.View.{note_view}
 use Rattle.object_rows.proofs.Notes.{parts_seen}
 use Rattle.object_rows.proofs.object.object_finding.Goals as goal
 

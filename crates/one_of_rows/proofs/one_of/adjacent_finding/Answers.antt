@@ -2,7 +2,7 @@ use Rattle.std.proofs.Common.{◌≡◌, map, option_map, sym, ap, ◌∙◌}
 use Rattle.enum_defs.specs.Shapes.{adjacent_shape}
 use Rattle.enum_shapes.specs.View.{adjacent_view}
 use Rattle.schema_tree.specs.Document.{view}
-use Rattle.row_types.specs.View.{finding_view}
+use Rattle.row_findings.specs.View.{finding_view}
 use Rattle.member_rows.specs.Members.{member_view}
 use Rattle.one_of_rows.proofs.Cases.{adjacent_case, no_adjacent}
 use Rattle.one_of_rows.proofs.one_of.adjacent_finding.Goals as goal

@@ -1,6 +1,6 @@
 use Rattle.std.proofs.Common.{◌≡◌, map, option_map, sym, ap, ◌∙◌}
 use Rattle.schema_tree.specs.Document.{view}
-use Rattle.row_types.specs.View.{variant_view, finding_view}
+use Rattle.row_findings.specs.View.{variant_view, finding_view}
 use Rattle.member_rows.specs.Members.{member_view}
 use Rattle.one_of_rows.proofs.Cases.{external_case, no_external}
 use Rattle.one_of_rows.proofs.one_of.external_finding.Goals as goal

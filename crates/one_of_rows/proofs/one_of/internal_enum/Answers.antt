@@ -2,7 +2,7 @@ use Rattle.std.proofs.Common.{◌≡◌, ◌++◌, ◌&&◌, map, sym, ap, ◌�
 use Rattle.model_defs.specs.Model.{internal_tag}
 use Rattle.convert_defs.specs.Row.{noted, branching, enum_row, by_shape, here, narrowed, mixed_branches_note}
 use Rattle.convert_defs.specs.IntegerRow.{note_if}
-use Rattle.row_types.specs.View.{note_view}
+use Rattle.row_findings.specs.View.{note_view}
 use Rattle.member_rows.specs.Members.{member_view}
 use Rattle.one_of_rows.specs.Tagged.{closed_shapes, open_shapes}
 use Rattle.one_of_rows.proofs.one_of.internal_enum.Goals as goal

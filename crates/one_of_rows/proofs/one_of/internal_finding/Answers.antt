@@ -4,7 +4,7 @@ use Rattle.enum_shapes.specs.View.{internal_view}
 use Rattle.schema_tree.specs.Document.{view}
 use Rattle.convert_defs.specs.Row.{noted, branching}
 use Rattle.convert_defs.specs.Table.{mixed_notes, internal_row}
-use Rattle.row_types.specs.View.{finding_view}
+use Rattle.row_findings.specs.View.{finding_view}
 use Rattle.member_rows.specs.Members.{member_view}
 use Rattle.one_of_rows.specs.Tagged.{internal_by}
 use Rattle.one_of_rows.proofs.Cases.{internal_case, no_internal}

@@ -2,7 +2,7 @@ use Rattle.std.proofs.Common.{◌≡◌, ◌++◌, not, map, sym, ap, ◌∙◌}
 use Rattle.schema_tree.specs.Document.{view}
 use Rattle.convert_defs.specs.Row.{noted, plainly, option_row, as_it_is_row, here, widened, null_note, overlap_note}
 use Rattle.convert_defs.specs.IntegerRow.{note_if}
-use Rattle.row_types.specs.View.{note_view}
+use Rattle.row_findings.specs.View.{note_view}
 use Rattle.member_rows.specs.Members.{member_view}
 use Rattle.convert_defs.specs.Table.{one_of_only}
 use Rattle.one_of_rows.proofs.one_of.only_or_untagged.Goals as goal

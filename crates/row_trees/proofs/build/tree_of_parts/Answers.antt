@@ -1,7 +1,7 @@
 use Rattle.std.proofs.Common.{map, Some, ap, sym, ◌∙◌}
 use Rattle.convert_defs.specs.Table.{reference_row, target_of}
-use Rattle.entry_trees.specs.View.{tree_view}
-use Rattle.row_types.specs.View.{row_view}
+use Rattle.tree_types.specs.View.{tree_view}
+use Rattle.row_findings.specs.View.{row_view}
 use Rattle.row_trees.specs.Build.{built}
 use Rattle.row_trees.proofs.Turns.{reference_built}
 use Rattle.row_trees.proofs.build.tree_of_parts.Goals as goal

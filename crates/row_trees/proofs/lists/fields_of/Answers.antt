@@ -1,8 +1,8 @@
 use Rattle.std.proofs.Common.{◌+◌, map, drop, ap, sym, ◌∙◌}
 use Rattle.attr_parts.proofs.Added.{mapped_drop}
 use Rattle.entry_defs.specs.Entry.{Fields, field_then}
-use Rattle.entry_trees.specs.View.{fields_view, parts_of, tree_view}
-use Rattle.row_types.specs.View.{field_view, state_view}
+use Rattle.tree_types.specs.View.{fields_view, parts_of, tree_view}
+use Rattle.row_findings.specs.View.{field_view, state_view}
 use Rattle.row_trees.specs.Build.{after_fields, built_fields}
 use Rattle.row_trees.proofs.Turns.{fields_turn, left_turn}
 use Rattle.row_trees.proofs.lists.fields_of.Goals as goal

@@ -1,7 +1,7 @@
 use Rattle.std.proofs.Common.{◌≡◌, drop, map}
 use Rattle.entry_defs.specs.Entry.{Fields}
-use Rattle.entry_trees.specs.View.{fields_view, parts_of, tree_view}
-use Rattle.row_types.specs.View.{field_view}
+use Rattle.tree_types.specs.View.{fields_view, parts_of, tree_view}
+use Rattle.row_findings.specs.View.{field_view}
 use Rattle.row_trees.specs.Build.{after_fields, built_fields}
 use Rattle.row_trees.proofs.lists.fields_of.Given as goal
 

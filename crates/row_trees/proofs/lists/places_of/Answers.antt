@@ -1,8 +1,8 @@
 use Rattle.std.proofs.Common.{◌+◌, map, drop, ap, sym, ◌∙◌}
 use Rattle.attr_parts.proofs.Added.{mapped_drop}
 use Rattle.entry_defs.specs.Entry.{Entries}
-use Rattle.entry_trees.specs.View.{parts_of, places_then, tree_view}
-use Rattle.row_types.specs.View.{part_view}
+use Rattle.tree_types.specs.View.{parts_of, places_then, tree_view}
+use Rattle.row_findings.specs.View.{part_view}
 use Rattle.row_trees.specs.Build.{after_parts, built_places}
 use Rattle.row_trees.proofs.Turns.{parts_turn, places_turn}
 use Rattle.row_trees.proofs.lists.places_of.Goals as goal

@@ -1,7 +1,7 @@
 use Rattle.std.proofs.Common.{◌≡◌, drop, map}
 use Rattle.entry_defs.specs.Entry.{Entries}
-use Rattle.entry_trees.specs.View.{parts_of, places_then, tree_view}
-use Rattle.row_types.specs.View.{part_view}
+use Rattle.tree_types.specs.View.{parts_of, places_then, tree_view}
+use Rattle.row_findings.specs.View.{part_view}
 use Rattle.row_trees.specs.Build.{after_parts, built_places}
 use Rattle.row_trees.proofs.lists.places_of.Given as goal
 

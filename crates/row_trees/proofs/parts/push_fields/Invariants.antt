@@ -1,6 +1,6 @@
 use Rattle.std.proofs.Common.{◌≡◌, ◌++◌, drop, map}
 use Rattle.convert_defs.specs.Row.{field_parts}
-use Rattle.row_types.specs.View.{field_view, part_view}
+use Rattle.row_findings.specs.View.{field_view, part_view}
 use Rattle.row_trees.proofs.parts.push_fields.Given as goal
 
 abbrev pub invariant-loop-field : goal.invariant-loop-field

@@ -1,5 +1,5 @@
 use Rattle.std.proofs.Common.{◌≡◌, ◌++◌, drop, map}
-use Rattle.row_types.specs.View.{part_view}
+use Rattle.row_findings.specs.View.{part_view}
 use Rattle.row_trees.proofs.parts.push_listed.Given as goal
 
 abbrev pub invariant-loop-part : goal.invariant-loop-part

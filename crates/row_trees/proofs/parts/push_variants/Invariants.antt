@@ -1,6 +1,6 @@
 use Rattle.std.proofs.Common.{◌≡◌, ◌++◌, drop, map}
 use Rattle.convert_defs.specs.Row.{variants_parts}
-use Rattle.row_types.specs.View.{part_view, variant_view}
+use Rattle.row_findings.specs.View.{part_view, variant_view}
 use Rattle.row_trees.proofs.parts.push_variants.Given as goal
 
 abbrev pub invariant-loop-variant : goal.invariant-loop-variant

@@ -1,8 +1,8 @@
 use Rattle.std.proofs.Common.{◌+◌, ◌++◌, map, drop, ap, sym, ◌∙◌}
 use Rattle.std.proofs.lemmas.List.{map_push}
 use Rattle.attr_parts.proofs.Added.{mapped_drop}
-use Rattle.entry_trees.specs.View.{tree_view}
-use Rattle.row_types.specs.View.{variant_view}
+use Rattle.tree_types.specs.View.{tree_view}
+use Rattle.row_findings.specs.View.{variant_view}
 use Rattle.row_trees.specs.Build.{bodies_held}
 use Rattle.row_trees.specs.Held.{bodies_view, body_seen}
 use Rattle.row_trees.proofs.Turns.{bodies_turn}

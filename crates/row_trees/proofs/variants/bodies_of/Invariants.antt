@@ -1,6 +1,6 @@
 use Rattle.std.proofs.Common.{◌≡◌, ◌++◌, drop, map}
-use Rattle.entry_trees.specs.View.{tree_view}
-use Rattle.row_types.specs.View.{variant_view}
+use Rattle.tree_types.specs.View.{tree_view}
+use Rattle.row_findings.specs.View.{variant_view}
 use Rattle.row_trees.specs.Build.{bodies_held}
 use Rattle.row_trees.specs.Held.{bodies_view}
 use Rattle.row_trees.proofs.variants.bodies_of.Given as goal

@@ -1,7 +1,7 @@
 use Rattle.std.proofs.Common.{◌≡◌}
 use Rattle.std.specs.Vec.Iter.{into_iter_items}
-use Rattle.entry_trees.specs.View.{cases_of, variants_then}
-use Rattle.row_types.specs.View.{tag_view}
+use Rattle.tree_types.specs.View.{cases_of, variants_then}
+use Rattle.row_findings.specs.View.{tag_view}
 use Rattle.row_trees.specs.Build.{held_variants}
 use Rattle.row_trees.specs.Held.{bodies_view}
 use Rattle.row_trees.proofs.variants.variants_of.Given as goal

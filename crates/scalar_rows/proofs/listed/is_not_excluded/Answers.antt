@@ -3,7 +3,7 @@ use Rattle.std.specs.Prelude.{option_map, if◌then◌else◌}
 use Rattle.json_value.specs.Value.{text}
 use Rattle.schema_defs.specs.Layer.{is_listed}
 use Rattle.convert_defs.specs.Table.{constant_list}
-use Rattle.row_types.specs.Given.{given_values_view}
+use Rattle.row_findings.specs.Given.{given_values_view}
 use Rattle.scalar_rows.proofs.listed.is_not_excluded.Goals as goal
 
 pub returns-in-Some : goal.returns-in-Some

@@ -1,6 +1,6 @@
 use Rattle.std.proofs.Common.{◌≡◌, Some, sym}
 use Rattle.convert_defs.specs.Standing.{alone}
-use Rattle.row_types.specs.Given.{plain_view}
+use Rattle.row_findings.specs.Given.{plain_view}
 use Rattle.scalar_rows.proofs.Given.{given_again}
 use Rattle.scalar_rows.proofs.listed.without_nulls.Goals as goal
 

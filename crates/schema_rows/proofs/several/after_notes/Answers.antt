@@ -1,6 +1,6 @@
 use Rattle.std.proofs.Common.{◌≡◌, ◌++◌, map, ap, ◌∙◌}
 use Rattle.std.proofs.lemmas.List.{map-append}
-use Rattle.row_types.specs.View.{note_view, finding_view}
+use Rattle.row_findings.specs.View.{note_view, finding_view}
 use Rattle.schema_rows.proofs.Found.{after_others}
 use Rattle.schema_rows.proofs.several.after_notes.Goals as goal
 

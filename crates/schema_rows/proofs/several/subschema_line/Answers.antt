@@ -5,8 +5,8 @@ use Rattle.std.specs.Prelude.{is_some}
 use Rattle.convert_defs.specs.IntegerRow.{note_if}
 use Rattle.convert_defs.specs.Scalars.{wanted_of}
 use Rattle.convert_defs.specs.Table.{subschema_finding, finding_or, no_others}
-use Rattle.row_types.specs.Given.{plain_view, same_view, lists_view, named_view}
-use Rattle.row_types.specs.View.{finding_view}
+use Rattle.row_findings.specs.Given.{plain_view, same_view, lists_view, named_view}
+use Rattle.row_findings.specs.View.{finding_view}
 use Rattle.schema_rows.proofs.Found.{found_line, no_line, not_both}
 use Rattle.schema_rows.proofs.several.subschema_line.Goals as goal
 

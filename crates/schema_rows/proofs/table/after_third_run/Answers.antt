@@ -1,6 +1,6 @@
 use Rattle.std.proofs.Common.{◌≡◌, option_map, sym, ap, ◌∙◌}
 use Rattle.schema_tree.specs.Document.{view}
-use Rattle.row_types.specs.Given.{plain_view, same_view, lists_view, named_view}
+use Rattle.row_findings.specs.Given.{plain_view, same_view, lists_view, named_view}
 use Rattle.type_rows.specs.Line.{held_view}
 use Rattle.schema_rows.specs.Runs.{after_fourth}
 use Rattle.schema_rows.proofs.Found.{found, missed}

@@ -1,8 +1,8 @@
 use Rattle.std.proofs.Common.{◌≡◌, ap, ◌∙◌}
 use Rattle.schema_tree.specs.Document.{view}
 use Rattle.convert_defs.specs.Table.{finding_of}
-use Rattle.row_types.specs.Given.{plain_view, same_view, lists_view, named_view}
-use Rattle.row_types.specs.View.{finding_view}
+use Rattle.row_findings.specs.Given.{plain_view, same_view, lists_view, named_view}
+use Rattle.row_findings.specs.View.{finding_view}
 use Rattle.schema_rows.proofs.Found.{lines_seen}
 use Rattle.schema_rows.proofs.table.by_object.Goals as goal
 

@@ -1,6 +1,6 @@
 use Rattle.std.proofs.Common.{◌≡◌, ◌++◌, map, drop}
 use Rattle.entry_types.specs.View.{id_view, field_view}
-use Rattle.entry_trees.specs.View.{parts_of}
+use Rattle.tree_types.specs.View.{parts_of}
 use Rattle.space_trees.specs.Parts.{fields_at}
 use Rattle.space_trees.proofs.finish.field_entries.Given as goal
 

@@ -1,6 +1,6 @@
 use Rattle.std.proofs.Common.{◌≡◌, map, drop}
 use Rattle.entry_defs.specs.Entry.{Target}
-use Rattle.entry_trees.specs.View.{target_entry}
+use Rattle.tree_types.specs.View.{target_entry}
 use Rattle.space_trees.specs.Filled.{led_from}
 use Rattle.space_trees.specs.Leading.{found_led, or_led}
 use Rattle.space_trees.proofs.led.led_by.Given as goal

@@ -1,6 +1,6 @@
 use Rattle.std.proofs.Common.{◌≡◌, map, drop}
 use Rattle.entry_space.specs.Seen.{seen}
-use Rattle.entry_trees.specs.View.{target_entry}
+use Rattle.tree_types.specs.View.{target_entry}
 use Rattle.space_trees.specs.Filled.{opened_targets}
 use Rattle.space_trees.proofs.table.open_targets.Given as goal
 

@@ -1,6 +1,6 @@
 use Rattle.std.proofs.Common.{◌≡◌, map, drop}
 use Rattle.entry_space.specs.Seen.{seen}
-use Rattle.entry_trees.specs.View.{tree_view}
+use Rattle.tree_types.specs.View.{tree_view}
 use Rattle.space_trees.specs.Filled.{placed_rest}
 use Rattle.space_trees.specs.Leading.{ids_of}
 use Rattle.space_trees.proofs.table.place_rest.Given as goal

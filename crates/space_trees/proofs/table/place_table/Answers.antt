@@ -1,7 +1,7 @@
 use Rattle.std.proofs.Common.{map}
 use Rattle.entry_types.specs.View.{id_view}
 use Rattle.entry_space.specs.Seen.{seen}
-use Rattle.entry_trees.specs.View.{target_entry, tree_view}
+use Rattle.tree_types.specs.View.{target_entry, tree_view}
 use Rattle.space_trees.proofs.Steps.{placed_by}
 use Rattle.space_trees.proofs.table.place_table.Goals as goal
 

@@ -1,6 +1,6 @@
 use Rattle.entry_types.specs.View.{id_view}
 use Rattle.entry_space.specs.Seen.{seen}
-use Rattle.entry_trees.specs.View.{table_view}
+use Rattle.tree_types.specs.View.{table_view}
 use Rattle.space_trees.proofs.Tables.{table_holds, root_stands, table_emitted}
 use Rattle.space_trees.proofs.table.space_of.Goals as goal
 

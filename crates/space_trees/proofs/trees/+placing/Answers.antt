@@ -2,7 +2,7 @@ use Rattle.std.proofs.Common.{None, option_map, arith, sym, ap, ◌∙◌}
 use Rattle.std.specs.Option.{option_copied}
 use Rattle.entry_types.specs.View.{id_view}
 use Rattle.entry_space.specs.Seen.{seen}
-use Rattle.entry_trees.specs.View.{contents_view, tree_view, parts_of}
+use Rattle.tree_types.specs.View.{contents_view, tree_view, parts_of}
 use Rattle.space_trees.specs.Placed.{placed, placed_contents}
 use Rattle.space_trees.specs.Leading.{ids_of}
 use Rattle.space_trees.proofs.Falls.{part_falls, first_falls, case_falls}

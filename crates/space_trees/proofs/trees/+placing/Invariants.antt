@@ -1,13 +1,13 @@
 use Rattle.std.proofs.Common.{◌≡◌, ◌+◌, map, drop, option_map}
 use Rattle.entry_space.specs.Seen.{seen}
 use Rattle.entry_types.specs.View.{id_view, variant_view}
-use Rattle.row_types.specs.View.{tag_view}
-use Rattle.entry_trees.specs.View.{variants_view}
+use Rattle.row_findings.specs.View.{tag_view}
+use Rattle.tree_types.specs.View.{variants_view}
 use Rattle.space_trees.specs.Placed.{placed_variants}
 use Rattle.space_trees.specs.Leading.{ids_of}
 use Rattle.space_trees.specs.Parts.{tree_seen, case_seen, placed_parts}
 use Rattle.space_trees.proofs.PartSteps.{joined}
-use Rattle.entry_trees.proofs.Sizes.{tree_size, parts_size, cases_size}
+use Rattle.tree_types.proofs.Sizes.{tree_size, parts_size, cases_size}
 use Rattle.space_trees.proofs.trees.+placing.Given as goal
 
 abbrev pub decreases-place_tree : goal.decreases-place_tree

@@ -4,7 +4,7 @@ use Rattle.schema_defs.specs.Schema.{schemas, the_list}
 use Rattle.schema_tree.specs.Document.{view}
 use Rattle.schema_types.specs.View.{schemas_view, subschemas_view, maybe_list_view}
 use Rattle.convert_defs.specs.Standing.{words_or}
-use Rattle.row_types.specs.View.{finding_view}
+use Rattle.row_findings.specs.View.{finding_view}
 use Rattle.subschema_rows.specs.Only.{by_all, any_in, one_in, none_in, all_in}
 use Rattle.subschema_rows.proofs.SubschemaViews.{all_there, all_crowded}
 use Rattle.subschema_rows.proofs.subschemas.by_keyword.Goals as goal

@@ -3,7 +3,7 @@ use Rattle.schema_tree.specs.Document.{view}
 use Rattle.schema_types.specs.View.{subschemas_view, same_of}
 use Rattle.convert_defs.specs.Scalars.{wanted_of}
 use Rattle.convert_defs.specs.Table.{subschema_finding}
-use Rattle.row_types.specs.Given.{plain_view}
+use Rattle.row_findings.specs.Given.{plain_view}
 use Rattle.subschema_rows.proofs.Alone.{keyword_seen, conditional_seen}
 use Rattle.subschema_rows.proofs.subschemas.subschema_finding.Goals as goal
 

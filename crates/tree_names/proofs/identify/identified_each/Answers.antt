@@ -1,6 +1,6 @@
 use Rattle.std.proofs.Common.{sym, ◌∙◌}
 use Rattle.std.specs.Vec.Iter.{into_iter_items}
-use Rattle.row_types.specs.View.{tag_view}
+use Rattle.row_findings.specs.View.{tag_view}
 use Rattle.tree_names.proofs.Turns.{no_items, variants_identified_turn, variants_identified_end}
 use Rattle.tree_names.proofs.identify.identified_each.Goals as goal
 

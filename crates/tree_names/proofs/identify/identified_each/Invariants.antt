@@ -1,6 +1,6 @@
 use Rattle.std.proofs.Common.{map, codes}
 use Rattle.std.specs.Vec.Iter.{into_iter_items}
-use Rattle.row_types.specs.View.{tag_view}
+use Rattle.row_findings.specs.View.{tag_view}
 use Rattle.tree_names.specs.Seen.{variant_view, variant_identified}
 use Rattle.tree_names.proofs.Steps.{Gives}
 use Rattle.tree_names.proofs.identify.identified_each.Given as goal

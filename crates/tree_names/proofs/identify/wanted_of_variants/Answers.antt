@@ -1,5 +1,5 @@
 use Rattle.std.proofs.Common.{arith}
-use Rattle.row_types.specs.View.{tag_view}
+use Rattle.row_findings.specs.View.{tag_view}
 use Rattle.tree_names.proofs.Turns.{variants_wanted_turn, variants_wanted_end}
 use Rattle.tree_names.proofs.identify.wanted_of_variants.Goals as goal
 

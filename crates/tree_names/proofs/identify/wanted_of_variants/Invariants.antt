@@ -1,6 +1,6 @@
 use Rattle.std.proofs.Common.{ℕ, List, [], map, take}
 use Rattle.good_names.specs.Given.{Stands}
-use Rattle.row_types.specs.View.{tag_view}
+use Rattle.row_findings.specs.View.{tag_view}
 use Rattle.tree_names.specs.Seen.{variant_view, name_in}
 use Rattle.tree_names.proofs.identify.wanted_of_variants.Given as goal
 

@@ -1,5 +1,5 @@
 use Rattle.std.proofs.Common.{map}
-use Rattle.entry_trees.specs.View.{tree_view, target_entry, table_view}
+use Rattle.tree_types.specs.View.{tree_view, target_entry, table_view}
 use Rattle.tree_names.proofs.Tables.{table_does}
 use Rattle.tree_names.proofs.table.named_table.Goals as goal
 

@@ -1,5 +1,5 @@
 use Rattle.std.proofs.Common.{map}
-use Rattle.entry_trees.specs.View.{label_view, target_entry}
+use Rattle.tree_types.specs.View.{label_view, target_entry}
 use Rattle.tree_names.proofs.Tables.{as_many, targets_do}
 use Rattle.tree_names.proofs.table.named_targets.Goals as goal
 

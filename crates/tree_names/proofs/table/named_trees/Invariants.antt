@@ -1,6 +1,6 @@
 use Rattle.std.proofs.Common.{map, take, codes}
 use Rattle.good_names.specs.Given.{Does}
-use Rattle.entry_trees.specs.View.{tree_view}
+use Rattle.tree_types.specs.View.{tree_view}
 use Rattle.tree_names.specs.Seen.{trees_named}
 use Rattle.tree_names.proofs.table.named_trees.Given as goal
 

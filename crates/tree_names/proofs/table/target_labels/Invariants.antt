@@ -1,6 +1,6 @@
 use Rattle.std.proofs.Common.{map, take, codes}
 use Rattle.good_names.specs.Given.{Does}
-use Rattle.entry_trees.specs.View.{label_view, target_entry}
+use Rattle.tree_types.specs.View.{label_view, target_entry}
 use Rattle.tree_names.specs.Seen.{targets_given}
 use Rattle.tree_names.proofs.table.target_labels.Given as goal
 

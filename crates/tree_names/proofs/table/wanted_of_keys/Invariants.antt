@@ -2,7 +2,7 @@ use Rattle.std.proofs.Common.{ℕ, List, [], map, take}
 use Rattle.naming_defs.specs.Names.{keys}
 use Rattle.naming_defs.specs.Good.{is_good_name}
 use Rattle.good_names.specs.Given.{Stands}
-use Rattle.entry_trees.specs.View.{target_entry}
+use Rattle.tree_types.specs.View.{target_entry}
 use Rattle.tree_names.proofs.table.wanted_of_keys.Given as goal
 
 abbrev pub invariant-loop-target : goal.invariant-loop-target

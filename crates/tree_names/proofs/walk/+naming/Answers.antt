@@ -1,6 +1,6 @@
 use Rattle.std.proofs.Common.{arith, sym}
 use Rattle.tree_names.proofs.Turns.{parts_turn, parts_end, variants_turn, variants_end}
-use Rattle.entry_trees.proofs.Sizes.{part_in_parts, front_in_parts, case_in_cases, box_in_rest}
+use Rattle.tree_types.proofs.Sizes.{part_in_parts, front_in_parts, case_in_cases, box_in_rest}
 use Rattle.tree_names.proofs.Walks.{front_told, struct_walked}
 use Rattle.tree_names.proofs.walk.+naming.Goals as goal
 

@@ -1,7 +1,7 @@
 use Rattle.std.proofs.Common.{◌+◌, map, take, codes}
 use Rattle.good_names.specs.Given.{Does}
 use Rattle.tree_names.specs.Seen.{part_view, parts_named, variant_view, variants_named}
-use Rattle.entry_trees.proofs.Sizes.{tree_size, part_size, parts_size, case_size, cases_size, rest_size}
+use Rattle.tree_types.proofs.Sizes.{tree_size, part_size, parts_size, case_size, cases_size, rest_size}
 use Rattle.tree_names.proofs.walk.+naming.Given as goal
 
 abbrev pub invariant-named_parts-loop-part : goal.invariant-named_parts-loop-part

@@ -1,9 +1,9 @@
 use Rattle.std.proofs.Common.{ap, sym, ◌∙◌}
 use Rattle.entry_defs.specs.Entry.{newtype_contents}
 use Rattle.convert_defs.specs.Convert.{content_of}
-use Rattle.row_types.specs.View.{tag_view}
-use Rattle.entry_trees.specs.View.{tree_view}
-use Rattle.entry_trees.proofs.Seen.{enum_seen}
+use Rattle.row_findings.specs.View.{tag_view}
+use Rattle.tree_types.specs.View.{tree_view}
+use Rattle.tree_types.proofs.Seen.{enum_seen}
 use Rattle.tree_parts.proofs.contents.content.Goals as goal
 
 pub returns-in_ok-parts-in-Enum : goal.returns-in_ok-parts-in-Enum

@@ -1,8 +1,8 @@
 use Rattle.std.proofs.Common.{rules, ◌≡◌, false, ◌&&◌, is_none, ap, sym, ◌∙◌}
 use Rattle.entry_defs.specs.Entry.{newtype_contents}
 use Rattle.convert_defs.specs.Convert.{same_flag}
-use Rattle.row_types.specs.View.{tag_view}
-use Rattle.entry_trees.specs.View.{label_view, parts_of}
+use Rattle.row_findings.specs.View.{tag_view}
+use Rattle.tree_types.specs.View.{label_view, parts_of}
 use Rattle.tree_parts.proofs.Holding.{fields_held, struct_held}
 use Rattle.tree_parts.proofs.contents.struct_content.Goals as goal
 use Rattle.tree_parts.proofs.contents.struct_content.Goals.{else-own-closed-via-then-own-closed+else-is_none, else-own-closed-via-else-own-closed}

@@ -1,6 +1,6 @@
 use Rattle.std.proofs.Common.{rules, ap, sym, ◌∙◌}
 use Rattle.entry_defs.specs.Entry.{newtype_contents}
-use Rattle.row_types.specs.View.{tag_view}
+use Rattle.row_findings.specs.View.{tag_view}
 use Rattle.tree_parts.proofs.Holding.{places_held, tuple_held}
 use Rattle.tree_parts.proofs.contents.tuple_content.Goals as goal
 

@@ -1,7 +1,7 @@
 use Rattle.std.proofs.Common.{ap, sym, ◌∙◌}
 use Rattle.convert_defs.specs.Convert.{as_item}
-use Rattle.entry_trees.specs.View.{tree_view, item_entry}
-use Rattle.entry_trees.proofs.Seen.{enum_seen}
+use Rattle.tree_types.specs.View.{tree_view, item_entry}
+use Rattle.tree_types.proofs.Seen.{enum_seen}
 use Rattle.tree_parts.proofs.items.item_of.Goals as goal
 
 pub returns-in-Enum : goal.returns-in-Enum

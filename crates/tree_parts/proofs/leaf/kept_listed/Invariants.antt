@@ -4,7 +4,7 @@ use Rattle.schema_defs.specs.Layer.{if_given, texts_agree}
 use Rattle.schema_types.specs.View.{kept_view, texts_view}
 use Rattle.model_defs.specs.Model.{external_tag}
 use Rattle.convert_defs.specs.Scalars.{kept_texts, texts_in, unit_variants}
-use Rattle.entry_trees.specs.View.{variants_then, cases_of}
+use Rattle.tree_types.specs.View.{variants_then, cases_of}
 use Rattle.tree_parts.specs.Lists.{kept_after}
 use Rattle.tree_parts.proofs.leaf.kept_listed.Given as goal
 

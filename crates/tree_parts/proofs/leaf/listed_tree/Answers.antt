@@ -1,7 +1,7 @@
 use Rattle.std.proofs.Common.{option_map}
 use Rattle.schema_types.specs.View.{texts_view}
 use Rattle.model_defs.specs.Model.{external_tag}
-use Rattle.entry_trees.specs.View.{tree_view, variants_view, cases_of}
+use Rattle.tree_types.specs.View.{tree_view, variants_view, cases_of}
 use Rattle.tree_parts.proofs.Leaves.{listed_whole}
 use Rattle.tree_parts.proofs.leaf.listed_tree.Goals as goal
 

@@ -1,6 +1,6 @@
 use Rattle.std.proofs.Common.{◌≡◌, map, take}
 use Rattle.entry_defs.specs.Entry.{Fields}
-use Rattle.entry_trees.specs.View.{fields_view, parts_of}
+use Rattle.tree_types.specs.View.{fields_view, parts_of}
 use Rattle.tree_parts.specs.Lists.{fields_again}
 use Rattle.tree_parts.proofs.lists.with_fields_again.Given as goal
 

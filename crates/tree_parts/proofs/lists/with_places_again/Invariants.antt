@@ -1,6 +1,6 @@
 use Rattle.std.proofs.Common.{◌≡◌}
 use Rattle.entry_defs.specs.Entry.{Entries}
-use Rattle.entry_trees.specs.View.{places_then, parts_of}
+use Rattle.tree_types.specs.View.{places_then, parts_of}
 use Rattle.tree_parts.specs.Lists.{places_again}
 use Rattle.tree_parts.proofs.lists.with_places_again.Given as goal
 

@@ -1,8 +1,8 @@
 use Rattle.std.proofs.Common.{◌≡◌, [], ◌∷◌, ◌++◌, map, sym, ap, ◌∙◌}
 use Rattle.std.proofs.lemmas.List.{append-nil}
 use Rattle.schema_defs.specs.declared.InstanceType.TheVariants.{Null, Boolean, Object, Array, Text, Integer}
-use Rattle.row_types.specs.Given.{plain_view, lists_view, named_view}
-use Rattle.row_types.specs.View.{variant_view}
+use Rattle.row_findings.specs.Given.{plain_view, lists_view, named_view}
+use Rattle.row_findings.specs.View.{variant_view}
 use Rattle.type_rows.proofs.SeveralTypes.{gathered, gathered_one}
 use Rattle.type_rows.proofs.lists.type_variants.Goals as goal
 

@@ -2,7 +2,7 @@ use Rattle.std.proofs.Common.{◌≡◌, Bool, true, false, if◌then◌else◌,
 use Rattle.json_value.specs.Value.{Value}
 use Rattle.schema_types.specs.View.{kept_view}
 use Rattle.convert_defs.specs.Scalars.{non_null}
-use Rattle.row_types.specs.Given.{given_values_view}
+use Rattle.row_findings.specs.Given.{given_values_view}
 use Rattle.scalar_rows.proofs.Given.{non_null-again}
 use Rattle.type_rows.proofs.null.less_nulls.Goals as goal
 

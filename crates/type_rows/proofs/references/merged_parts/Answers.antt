@@ -1,7 +1,7 @@
 use Rattle.std.proofs.Common.{◌≡◌, [], ◌∷◌, ◌++◌, map, ap, ◌∙◌}
 use Rattle.std.proofs.lemmas.List.{map-append}
 use Rattle.convert_defs.specs.Row.{made}
-use Rattle.row_types.specs.View.{part_view}
+use Rattle.row_findings.specs.View.{part_view}
 use Rattle.type_rows.proofs.references.merged_parts.Goals as goal
 
 pub returns : goal.returns

@@ -1,8 +1,8 @@
 use Rattle.std.proofs.Common.{Some, is_some, map, ap, ◌∙◌}
 use Rattle.schema_defs.specs.Schema.{object}
 use Rattle.convert_defs.specs.Standing.{less_const}
-use Rattle.row_types.specs.Given.{plain_view, same_view, lists_view, named_view, keywords_view}
-use Rattle.row_types.specs.View.{part_view, note_view, finding_view}
+use Rattle.row_findings.specs.Given.{plain_view, same_view, lists_view, named_view, keywords_view}
+use Rattle.row_findings.specs.View.{part_view, note_view, finding_view}
 use Rattle.type_rows.proofs.Constants.{is_there, constant_found}
 use Rattle.type_rows.proofs.types.constant_line.Goals as goal
 

@@ -9,7 +9,7 @@ use Rattle.schema_tree.specs.Conversions.{conversions_view}
 use Rattle.schema_tree.specs.Document.{view as document_seen}
 use Rattle.schema_tree.specs.Fault.{fault_view}
 use Rattle.reading_defs.specs.Laws.{defaults_are_sound}
-use Rattle.typify_convert.specs.Emitted.{emitted_view}
+use Rattle.convert_document.specs.Emitted.{emitted_view}
 use Rattle.derive_model.specs.Judging.{AreSound}
 use Rattle.derive_model.specs.VerdictView.{verdict_view}
 use Rattle.typify_run.specs.Headline.{read_of}

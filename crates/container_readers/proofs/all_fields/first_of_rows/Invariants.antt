@@ -1,6 +1,0 @@
-use Rattle.std.proofs.Common.{◌≡◌, drop}
-use Rattle.container_readers.specs.InOrder.{rows_from}
-use Rattle.container_readers.proofs.all_fields.first_of_rows.Given as goal
-
-abbrev pub invariant-loop-at : goal.invariant-loop-at
-invariant-loop-at l = rows_from l.field (drop l.variant l.variants) ≡ rows_from l.start (drop l.at l.variants)

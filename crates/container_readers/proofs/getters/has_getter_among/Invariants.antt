@@ -1,8 +1,0 @@
-use Rattle.std.proofs.Common.{◌≡◌, map, drop}
-use Rattle.std.specs.List.{list_any}
-use Rattle.std.specs.Prelude.{is_some}
-use Rattle.container_readers.specs.Views.{field_view}
-use Rattle.container_readers.proofs.getters.has_getter_among.Given as goal
-
-abbrev pub invariant-loop-field : goal.invariant-loop-field
-invariant-loop-field l = list_any (λ f. is_some f.attrs.getter) (map field_view l.fields) ≡ list_any (λ f. is_some f.attrs.getter) (map field_view (drop l.field-index l.fields))

@@ -1,8 +1,0 @@
--- The fields that an iterator has left.
-use Rattle.std.specs.Prelude.{List}
-use Rattle.container_readers.specs.declared.all_fields.AllFields.{AllFields}
-use Rattle.container_readers.specs.declared.container.Field.{Field}
-use Rattle.container_readers.specs.InOrder.{fields_left}
-
-abbrev pub left : AllFields → List Field
-left a = fields_left a.body.now a.variant a.field

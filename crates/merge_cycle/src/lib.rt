@@ -1,0 +1,11 @@
+//! Merges and subtractions of schemas by walks.
+#![tactic(auto)]
+
+mod apart;
+mod calls;
+mod cycle;
+pub mod examples;
+mod how;
+mod outside;
+
+pub use calls::{join_schemas, less_schemas, merge_schemas, with_subschemas};

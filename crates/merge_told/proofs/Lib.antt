@@ -1,4 +1,0 @@
-pub mod Refusing
-pub mod Unmarking
-pub mod ByKind
-pub mod InOrder

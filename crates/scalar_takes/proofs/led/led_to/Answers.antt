@@ -1,6 +1,0 @@
-use Rattle.scalar_takes.proofs.TargetSteps.{among_these}
-use Rattle.scalar_takes.proofs.led.led_to.Goals as goal
-
-pub returns-then-is_same-clause-among : goal.returns-then-is_same-clause-among
-returns-then-is_same-clause-among c =
-    among_these c.deref-entry-items.result.now c.args.table.now.targets.items c.loop-entry.entry-index c.entry-item.result c.deref-entry-items.ensures.value c.loop-entry-test.true c.entry-item.is

@@ -1,7 +1,0 @@
-use Rattle.std.proofs.Common.{◌≡◌, drop}
-use Rattle.entry_trees.specs.View.{target_view}
-use Rattle.scalar_takes.proofs.TargetSteps.{found_in}
-use Rattle.scalar_takes.proofs.led.led_to.Given as goal
-
-abbrev pub invariant-loop-entry : goal.invariant-loop-entry
-invariant-loop-entry l = found_in (target_view l.target) l.table.targets.items ≡ found_in (target_view l.target) (drop l.entry-index l.table.targets.items)

@@ -1,6 +1,0 @@
-use Rattle.std.proofs.Common.{◌≡◌, drop}
-use Rattle.scalar_takes.proofs.Variants.{unit_in}
-use Rattle.scalar_takes.proofs.tags.names_unit.Given as goal
-
-abbrev pub invariant-loop-variant : goal.invariant-loop-variant
-invariant-loop-variant l = unit_in l.text l.variants.items ≡ unit_in l.text (drop l.variant-index l.variants.items)

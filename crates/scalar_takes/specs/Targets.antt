@@ -1,9 +1,0 @@
--- The trees that references lead to.
-use Rattle.std.specs.Prelude.{◌≡◌, ◌⊎◌, List, [], ◌∷◌}
-use Rattle.entry_trees.specs.declared.tree.Target.{Target}
-use Rattle.entry_trees.specs.declared.tree.Tree.{Tree}
-
--- it is the tree of one of these
-abbrev pub Among : Tree → List (Target × Tree) → Type 0
-Among x [] = ⊥
-Among x (p ∷ ps) = (p.1 ≡ x) ⊎ Among x ps

@@ -1,7 +1,0 @@
-pub mod Planned
-pub mod Taken
-pub mod Standing
-pub mod Holding
-pub mod Told
-pub mod Refusals
-pub mod Coming

@@ -1,9 +1,0 @@
-use Rattle.std.proofs.Common.{refl}
-use Rattle.entry_types.specs.View.{id_view}
-use Rattle.entry_trees.specs.View.{tree_view}
-use Rattle.type_space.proofs.Planned.{tree_plans}
-use Rattle.type_space.proofs.plan.place_next.Goals as goal
-
-pub returns : goal.returns
-returns c t plans =
-    tree_plans c.args.plan.now _ t (tree_view c.in_ok-named.named) (tree_view c.args.tree.now) (id_view c.in_ok-id.id) plans c.in_ok-named.ensures c.in_ok-id.ensures refl

@@ -1,7 +1,0 @@
-pub mod Placing
-pub mod Kept
-pub mod Gathered
-pub mod Space
-pub mod Added
-pub mod Refused
-pub mod Laws
