@@ -1,6 +1,6 @@
 //! Objects of which properties and required names stand aside.
 ghost use Rattle.std.specs.Prelude.{◌≡◌, IfOk};
-ghost use Rattle.schema_types.specs.View.{members_view, object_view, schema_view};
+ghost use Rattle.schema_types.specs.View.{members_view, schema_view};
 ghost use Rattle.merge_apart.specs.Aside.{properties_in, with_aside, with_members};
 ghost use Rattle.merge_apart.specs.View.{aside_view, boxed_view, members_parted, parted_view, seen_properties, IsSettled};
 
@@ -8,7 +8,7 @@ use crate::apart::are_forms;
 use crate::aside::{Aside, Parted};
 use crate::names::{PartedNames, all_names, names_aside, names_back};
 use crate::properties::{PartedProperties, all_properties, properties_aside, properties_back};
-use schema_types::{ObjectValidation, Schema, SchemaObject};
+use schema_types::{ObjectValidation, Schema, SchemaObject, as_schema};
 use std::alloc::{AllocError, Global};
 use std::collections::{BTreeMap, BTreeSet};
 
@@ -96,12 +96,6 @@ fn all_members(members: ObjectValidation, aside: Aside) -> Result<ObjectValidati
 }
 
 // ---- whole schemas
-
-fn as_schema(object: Box<SchemaObject>) -> Schema
-    ensures { schema_view result ≡ object_view object.value }
-{
-    Schema::Object(object)
-}
 
 fn object_aside(
     alloc: Global,

@@ -6,7 +6,7 @@ ghost use Rattle.merge_defs.specs.Members.{all_of as all_of_def, negation as neg
 ghost use Rattle.merge_branches.specs.Kept.{branch_of};
 
 use crate::branch::Branch;
-use schema_types::{Schema, SchemaObject, Subschemas};
+use schema_types::{Schema, SchemaObject, Subschemas, as_schema};
 use std::alloc::{AllocError, Global};
 
 fn only_subschemas(subschemas: Subschemas) -> SchemaObject
@@ -28,12 +28,6 @@ fn only_subschemas(subschemas: Subschemas) -> SchemaObject
         reference: None,
         walk: None,
     }
-}
-
-fn as_schema(object: Box<SchemaObject>) -> Schema
-    ensures { schema_view result ≡ object_view object.value }
-{
-    Schema::Object(object)
 }
 
 // The schema that says the subschemas and nothing else.

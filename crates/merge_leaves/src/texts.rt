@@ -10,7 +10,7 @@ ghost use Rattle.merge_parts.specs.Steps.{Steps};
 
 use crate::sizes::{greatest, least, sizes_cross};
 use merge_parts::{MergeKind, MergeNote, never_unless};
-use schema_types::{StringValidation, copy_list_of_texts};
+use schema_types::StringValidation;
 use std::alloc::{AllocError, Global};
 use std::collections::BTreeSet;
 
@@ -68,16 +68,6 @@ fn joined_patterns(
     Ok(kept)
 }
 
-fn copy_texts(alloc: Global, from: &StringValidation) -> Result<StringValidation, AllocError>
-    ensures { IfOk result (λ t. texts_view t ≡ texts_view from.now) }
-{
-    Ok(StringValidation {
-        max_length: from.max_length,
-        min_length: from.min_length,
-        patterns: copy_list_of_texts(alloc, &from.patterns)?,
-    })
-}
-
 fn joined_texts(
     alloc: Global,
     first: &StringValidation,
@@ -102,7 +92,7 @@ fn two_texts(
     ensures { IfOk result (λ o. Steps (notes_view notes.old.items) (notes_view notes.new.items) (two_texts_of is_whole (texts_view first.now) (texts_view second.now)) (option_map (option_map texts_view) o)) }
 {
     if same_texts(first, second) {
-        return Ok(Some(Some(copy_texts(alloc, first)?)));
+        return Ok(Some(Some(first.try_clone(alloc)?)));
     }
     if sizes_cross(
         greatest(first.min_length, second.min_length),
@@ -127,8 +117,8 @@ pub fn both_texts(
 {
     match (first, second) {
         (None, None) => Ok(Some(None)),
-        (None, Some(texts)) => Ok(Some(Some(copy_texts(alloc, texts)?))),
-        (Some(texts), None) => Ok(Some(Some(copy_texts(alloc, texts)?))),
+        (None, Some(texts)) => Ok(Some(Some(texts.try_clone(alloc)?))),
+        (Some(texts), None) => Ok(Some(Some(texts.try_clone(alloc)?))),
         (Some(texts), Some(others)) => two_texts(alloc, notes, is_whole, texts, others),
     }
 }

@@ -6,7 +6,7 @@ ghost use Rattle.merge_defs.specs.Outcome.{where_both};
 ghost use Rattle.merge_defs.specs.Leaves.{all_types, is_only as is_only_of, names_type as names_type_of, one_if_named as one_if_named_of, some_types as some_types_of, two_types as two_types_of};
 ghost use Rattle.merge_parts.specs.Steps.{Quietly};
 
-use schema_types::{InstanceType, Types};
+use schema_types::{InstanceType, Types, copy_type_names};
 use std::alloc::{AllocError, Global};
 
 fn same_type(kind: InstanceType, other: InstanceType) -> bool
@@ -121,22 +121,12 @@ fn two_types(
     }
 }
 
-fn copy_kinds(alloc: Global, from: &Vec<InstanceType>) -> Result<Vec<InstanceType>, AllocError>
-    ensures { IfOk result (λ v. v.items ≡ from.now.items) }
-{
-    let mut copies = Vec::with_capacity(alloc, from.len())?;
-    for kind in from {
-        copies.push(*kind)?;
-    }
-    Ok(copies)
-}
-
 fn copy_types(alloc: Global, from: &Types) -> Result<Types, AllocError>
     ensures { IfOk result (λ t. types_view t ≡ types_view from.now) }
 {
     match from {
         Types::One(kind) => Ok(Types::One(*kind)),
-        Types::Many(kinds) => Ok(Types::Many(copy_kinds(alloc, kinds)?)),
+        Types::Many(kinds) => Ok(Types::Many(copy_type_names(alloc, kinds)?)),
     }
 }
 

@@ -10,9 +10,8 @@ ghost use Rattle.merge_less.specs.Taking.{putting, with_new, with_properties as 
 
 use merge_members::{Gathered, all_gathered};
 use merge_parts::MergeNote;
-use merge_sides::as_schema;
 use merge_steps::Stop;
-use schema_types::{ObjectValidation, Schema, SchemaObject};
+use schema_types::{ObjectValidation, Schema, SchemaObject, as_schema};
 use std::alloc::Global;
 use std::collections::BTreeMap;
 

@@ -12,7 +12,7 @@ ghost use Rattle.merge_members.specs.Plans.{bound_outcome, entry_then, entries_t
 
 use crate::lookups::{has_property, is_among, property};
 use crate::plan::{Bound, Entry};
-use schema_types::{Schema, SchemaObject, Subschemas};
+use schema_types::{Schema, SchemaObject, Subschemas, as_schema};
 use std::alloc::{AllocError, Global};
 use std::collections::{BTreeMap, BTreeSet};
 
@@ -50,12 +50,6 @@ fn with_all_of(all: Vec<Schema>) -> SchemaObject
         reference: None,
         walk: None,
     }
-}
-
-fn as_schema(object: Box<SchemaObject>) -> Schema
-    ensures { schema_view result ≡ object_view object.value }
-{
-    Schema::Object(object)
 }
 
 fn all_of_two(alloc: Global, first: &Schema, second: &Schema) -> Result<Schema, AllocError>

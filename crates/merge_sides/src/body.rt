@@ -13,13 +13,12 @@ ghost use Rattle.merge_sides.specs.Leaves.{leaves_view};
 ghost use Rattle.merge_sides.specs.Met.{body_outcome, listing, walk_or};
 
 use crate::met::Leaves;
-use crate::references::as_schema;
 use merge_leaves::{both_values, tidied_values};
 use merge_steps::{Stop, answered};
 use merge_walked::settled;
 use schema_types::{
     ArrayValidation, NumberValidation, ObjectValidation, Schema, SchemaObject, StringValidation,
-    Types, Walk,
+    Types, Walk, as_schema,
 };
 use serde_json::Value;
 use std::alloc::{AllocError, Global};

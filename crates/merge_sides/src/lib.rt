@@ -13,6 +13,6 @@ mod two_sides;
 pub use body::{body_of, finished, part_on, with_values};
 pub use met::{Asked, Bodies, Leaves, Met, Referred};
 pub use opening::entered;
-pub use references::{as_schema, stand_for};
+pub use references::stand_for;
 pub use refused::{refuse_subschemas, unsupported};
 pub use two_sides::{has_nulls, meet};

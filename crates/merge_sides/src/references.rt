@@ -18,7 +18,7 @@ use merge_parts::{MergeKind, MergeNote, Way, note_if};
 use merge_steps::Stop;
 use merge_walked::{made_on, own_walk, settled as settled_on, to_target, walked};
 use schema_sameness::{roughly, wholly};
-use schema_types::{Document, Schema, SchemaObject, Walk};
+use schema_types::{Document, Schema, SchemaObject, Walk, as_schema};
 use std::alloc::{AllocError, Global};
 
 fn as_object(reference: String, walk: Walk) -> SchemaObject
@@ -40,13 +40,6 @@ fn as_object(reference: String, walk: Walk) -> SchemaObject
         reference: Some(reference),
         walk: Some(walk),
     }
-}
-
-/// An object as a schema.
-pub fn as_schema(object: Box<SchemaObject>) -> Schema
-    ensures { schema_view result ≡ object_view object.value }
-{
-    Schema::Object(object)
 }
 
 // The reference of an object, and the object's walk.

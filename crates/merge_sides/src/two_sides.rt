@@ -22,14 +22,14 @@ ghost use Rattle.merge_sides.specs.Referring.{drops_beside, first_outcome, objec
 use crate::leaves::leaves;
 use crate::met::{Bodies, Leaves, Met, Referred};
 use crate::opening::entered;
-use crate::references::{as_schema, asked, referred, referring};
+use crate::references::{asked, referred, referring};
 use crate::refused::{refuse_names, refuse_subschemas};
 use merge_leaves::is_only;
 use merge_parts::{MergeKind, MergeNote, Way, note_if};
 use merge_steps::Stop;
 use merge_walked::{longer, own_walk};
 use schema_sameness::drops_siblings;
-use schema_types::{Document, InstanceType, Schema, SchemaObject, Setting, Walk};
+use schema_types::{Document, InstanceType, Schema, SchemaObject, Setting, Walk, as_schema};
 use std::alloc::{AllocError, Global};
 
 // ---- two objects without references

@@ -5,11 +5,11 @@ ghost use Rattle.schema_types.specs.View.{schema_view, object_view, subschemas_v
 ghost use Rattle.merge_walks.specs.Carried.{root_walk as root_walk_of, to_child as to_child_of, carried, maybe_inside, all_inside, list_inside, names_inside, places_inside, same_inside, lists_inside, named_inside, opened as opened_of};
 ghost use Rattle.merge_walked.specs.Seen.{side_view, with_parts as with_parts_of};
 
-use crate::names::copy_names;
-use crate::side::{Side, as_schema, child_side, member_side, place_side};
+use crate::side::{Side, child_side, member_side, place_side};
 use crate::walks::{own_walk, root_walk};
 use schema_types::{
-    ArrayValidation, Items, ObjectValidation, Schema, SchemaObject, Subschemas, Walk,
+    ArrayValidation, Items, ObjectValidation, Schema, SchemaObject, Subschemas, Walk, as_schema,
+    copy_names,
 };
 use std::alloc::{AllocError, Global};
 use std::collections::BTreeMap;

@@ -3,7 +3,6 @@
 
 mod inside;
 mod longest;
-mod names;
 mod settle;
 mod side;
 mod walks;

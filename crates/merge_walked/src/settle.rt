@@ -5,9 +5,8 @@ ghost use Rattle.schema_types.specs.View.{schema_view, object_view, subschemas_v
 ghost use Rattle.merge_walks.specs.Made.{settled as settled_of, settled_same, settled_named, settled_maybe, settled_list, settled_all, settled_properties, longest_or, walks_of_same};
 
 use crate::longest::longest_of;
-use crate::side::as_schema;
 use crate::walks::made_on;
-use schema_types::{ObjectValidation, Schema, SchemaObject, Subschemas, Walk};
+use schema_types::{ObjectValidation, Schema, SchemaObject, Subschemas, Walk, as_schema};
 use std::alloc::{AllocError, Global};
 use std::collections::BTreeMap;
 

@@ -9,7 +9,7 @@ ghost use Rattle.merge_walks.specs.Walked.{walk_of};
 ghost use Rattle.merge_walked.specs.Seen.{side_view, maybe_side_view, has_walk as has_walk_of};
 
 use crate::walks::{own_walk, to_child, to_member, to_place};
-use schema_types::{Schema, SchemaObject, Walk};
+use schema_types::{Schema, SchemaObject, Walk, as_schema};
 use std::alloc::{AllocError, Global};
 use std::collections::BTreeMap;
 
@@ -69,12 +69,6 @@ impl<'s> Side<'s> {
 }
 
 // ---- the schema on the walk
-
-pub(crate) fn as_schema(object: Box<SchemaObject>) -> Schema
-    ensures { schema_view result ≡ object_view object.value }
-{
-    Schema::Object(object)
-}
 
 fn walked_object(object: Box<SchemaObject>, walk: Walk) -> Box<SchemaObject>
     ensures { object_view result.value ≡ on_walk walk (object_view object.value) }

@@ -13,12 +13,12 @@ ghost use Rattle.merged_rows.specs.Starts.{spot_of};
 
 use crate::annotations::Annotations;
 use crate::instead::Standing;
-use crate::owning::{as_schema, text_of, value_of};
+use crate::owning::{text_of, value_of};
 use crate::places::{is_made_at, location_of, walk_of};
 use crate::start::Start;
 use merge_walked::{is_made, own_walk};
 use row_findings::{Source, Steps};
-use schema_types::{Schema, SchemaObject, Walk};
+use schema_types::{Schema, SchemaObject, Walk, as_schema};
 use serde_json::Value;
 use std::alloc::{AllocError, Global};
 

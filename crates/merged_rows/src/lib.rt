@@ -4,7 +4,6 @@
 
 mod annotations;
 mod answered;
-mod copies;
 mod deep;
 pub mod examples;
 mod faults;

@@ -7,11 +7,10 @@ ghost use Rattle.schema_types.specs.View.{array_view, kept_view, members_view, o
 ghost use Rattle.row_findings.specs.Given.{given_types_view, given_values_view, keywords_view, source_view};
 ghost use Rattle.merged_rows.specs.Rows.{subschemas_in, without_reference as without_reference_of, without_subschemas};
 
-use crate::copies::{copy_array, copy_members, copy_subschemas, copy_texts, copy_types};
 use row_findings::{GivenTypes, GivenValues, Keywords, Source};
 use schema_types::{
     ArrayValidation, ObjectValidation, Schema, SchemaObject, StringValidation, Subschemas, Types,
-    Walk, copy_list_of_values,
+    Walk, as_schema, copy_list_of_values, copy_type_names,
 };
 use serde_json::Value;
 use std::alloc::{AllocError, Global};
@@ -41,7 +40,7 @@ fn types_of(alloc: Global, types: Option<GivenTypes<'_>>) -> Result<Option<Types
 {
     match types {
         Some(GivenTypes::One(kind)) => Ok(Some(Types::One(kind))),
-        Some(GivenTypes::Many(kinds)) => Ok(Some(Types::Many(copy_types(alloc, kinds)?))),
+        Some(GivenTypes::Many(kinds)) => Ok(Some(Types::Many(copy_type_names(alloc, kinds)?))),
         None => Ok(None),
     }
 }
@@ -107,7 +106,7 @@ fn texts_of(
     ensures { IfOk result (λ o. option_map texts_view o ≡ option_map (λ t. texts_view t.now) texts.entry) }
 {
     match texts {
-        Some(texts) => Ok(Some(copy_texts(alloc, texts)?)),
+        Some(texts) => Ok(Some(texts.try_clone(alloc)?)),
         None => Ok(None),
     }
 }
@@ -119,7 +118,7 @@ fn subschemas_of(
     ensures { IfOk result (λ o. option_map subschemas_view o ≡ option_map (λ s. subschemas_view s.now) subschemas.entry) }
 {
     match subschemas {
-        Some(subschemas) => Ok(Some(copy_subschemas(alloc, subschemas)?)),
+        Some(subschemas) => Ok(Some(subschemas.try_clone(alloc)?)),
         None => Ok(None),
     }
 }
@@ -131,7 +130,7 @@ fn array_of(
     ensures { IfOk result (λ o. option_map array_view o ≡ option_map (λ a. array_view a.now) array.entry) }
 {
     match array {
-        Some(array) => Ok(Some(copy_array(alloc, array)?)),
+        Some(array) => Ok(Some(array.try_clone(alloc)?)),
         None => Ok(None),
     }
 }
@@ -143,7 +142,7 @@ fn members_of(
     ensures { IfOk result (λ o. option_map members_view o ≡ option_map (λ m. members_view m.now) members.entry) }
 {
     match members {
-        Some(members) => Ok(Some(copy_members(alloc, members)?)),
+        Some(members) => Ok(Some(members.try_clone(alloc)?)),
         None => Ok(None),
     }
 }
@@ -180,12 +179,6 @@ fn object_of(alloc: Global, keywords: &Keywords<'_>) -> Result<SchemaObject, All
         reference,
         walk,
     })
-}
-
-pub(crate) fn as_schema(object: Box<SchemaObject>) -> Schema
-    ensures { schema_view result ≡ object_view object.value }
-{
-    Schema::Object(object)
 }
 
 /// A copy that borrows nothing. Fails only for want of memory.

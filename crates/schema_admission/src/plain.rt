@@ -1,13 +1,11 @@
 //! Keywords that hold no schema, but those of texts.
 ghost use Rattle.std.specs.Prelude.{◌≡◌, ◌&&◌, ◌||◌, ◌+◌, ◌<◌, ◌^◌, suc, if◌then◌else◌, pos, map, option_map, int_le, int_lt, int_rem};
 ghost use Rattle.std.specs.Ordering.{int_eq};
-ghost use Rattle.json_value.specs.Value.{same as same_value};
 ghost use Rattle.schema_defs.specs.Layer.{if_given, is_kind, is_listed as is_listed_in, number_format_agrees, numbers_agree as numbers_say, types_agree as types_say, within as within_both};
 ghost use Rattle.schema_types.specs.View.{kept_view, numbers_view, types_view};
 ghost use Rattle.schema_admission.specs.Judging.{lies_in};
 
-use json_value::same;
-use schema_types::{InstanceType, NumberValidation, Types};
+use schema_types::{InstanceType, NumberValidation, Types, is_among};
 use serde_json::Value;
 
 #[tactic(auto, using(crate::proofs::Numbers::is_number))]
@@ -77,33 +75,12 @@ pub fn types_agree(types: &Option<Types>, value: &Value) -> bool
     }
 }
 
-fn is_among(values: &Vec<Value>, value: &Value) -> bool
-    ensures { result ≡ is_listed_in (kept_view value.now) (map kept_view values.now.items) }
-{
-    for other in values {
-        if same(value, other) {
-            return true;
-        }
-    }
-    false
-}
-
 /// `enum`.
 pub fn is_listed(values: &Option<Vec<Value>>, value: &Value) -> bool
     ensures { result ≡ if_given (is_listed_in (kept_view value.now)) (option_map (λ v. map kept_view v.items) values.now) }
 {
     match values {
         Some(values) => is_among(values, value),
-        None => true,
-    }
-}
-
-/// `const`.
-pub fn is_constant(constant: &Option<Value>, value: &Value) -> bool
-    ensures { result ≡ if_given (same_value (kept_view value.now)) (option_map kept_view constant.now) }
-{
-    match constant {
-        Some(constant) => same(value, constant),
         None => true,
     }
 }

@@ -6,11 +6,9 @@ ghost use Rattle.schema_defs.specs.Layer.{format_of, if_given, has_any as has_an
 ghost use Rattle.schema_types.specs.View.{kept_view, numbers_view, object_view, properties_view, texts_view};
 ghost use Rattle.schema_admission.specs.Judging.{kind_agrees as kind_says, number_agrees as number_says, plain_part, text_length};
 
-use crate::plain::{
-    all_of, is_constant, is_listed, is_within, number_has_format, numbers_agree, types_agree,
-};
+use crate::plain::{all_of, is_listed, is_within, number_has_format, numbers_agree, types_agree};
 use schema_tree::{Format, TextFault, Texts};
-use schema_types::{NumberValidation, Schema, SchemaObject, StringValidation};
+use schema_types::{NumberValidation, Schema, SchemaObject, StringValidation, is_constant};
 use serde_json::Value;
 use std::collections::BTreeMap;
 

@@ -1,19 +1,8 @@
 //! The name in a reference, and its decoding, where `~1` is `/` and `~0` is `~`.
-ghost use Rattle.std.specs.Prelude.{◌≡◌, ◌<◌, [], ◌∷◌, length, MatchOption, IfOk, option_map, codes};
+ghost use Rattle.std.specs.Prelude.{◌≡◌, ◌<◌, [], ◌∷◌, length, MatchOption, IfOk};
 ghost use Rattle.schema_defs.specs.Location.{unescaped};
-ghost use Rattle.schema_defs.specs.Admits.{first_of, without_prefix};
 
 use std::alloc::{AllocError, Global};
-
-// The name as it is written, or nothing where the reference has neither prefix.
-pub(crate) fn written_name(reference: &str) -> Option<&str>
-    ensures { option_map (λ n. n.now) result ≡ first_of (without_prefix (codes "#/definitions/") reference.now) (without_prefix (codes "#/$defs/") reference.now) }
-{
-    match reference.strip_prefix("#/definitions/") {
-        Some(name) => Some(name),
-        None => reference.strip_prefix("#/$defs/"),
-    }
-}
 
 // The first byte of what the text decodes to, and what is left to decode.
 fn decode_first(escaped: &[u8]) -> Option<(u8, &[u8])>

@@ -3,7 +3,8 @@ ghost use Rattle.std.specs.Prelude.{◌≡◌, ℕ, List, length, IfOk, unwrap_o
 ghost use Rattle.schema_defs.specs.Location.{unescaped};
 ghost use Rattle.schema_loops.specs.Named.{seen, place_named, number_of_name, number_by};
 
-use crate::decoding::{decoded, written_name};
+use crate::decoding::decoded;
+use schema_types::written_name;
 use std::alloc::{AllocError, Global};
 use std::collections::BTreeMap;
 

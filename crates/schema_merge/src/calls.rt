@@ -13,10 +13,9 @@ ghost use Rattle.schema_tree.specs.Fault.{fault_view};
 use crate::telling::tell;
 use crate::told::Merged;
 use merge_cycle::{less_schemas, merge_schemas, with_subschemas};
-use merge_sides::as_schema;
 use merge_walked::Side;
 use schema_tree::Fault;
-use schema_types::{Document, Location, Schema, SchemaObject, Subschemas};
+use schema_types::{Document, Location, Schema, SchemaObject, Subschemas, as_schema};
 use std::alloc::{AllocError, Global};
 
 /// How many parts are merged within one another, so that the stack holds.

@@ -8,16 +8,10 @@ ghost use Rattle.merge_walks.specs.Told.{unmark as unmark_of};
 
 use merge_walked::unmarked;
 use schema_types::{
-    ArrayValidation, Items, ObjectValidation, Schema, SchemaObject, Subschemas, Walk,
+    ArrayValidation, Items, ObjectValidation, Schema, SchemaObject, Subschemas, Walk, as_schema,
 };
 use std::alloc::{AllocError, Global};
 use std::collections::BTreeMap;
-
-fn as_schema(object: Box<SchemaObject>) -> Schema
-    ensures { schema_view result ≡ object_view object.value }
-{
-    Schema::Object(object)
-}
 
 fn boxed_object(alloc: Global, object: SchemaObject) -> Result<Box<SchemaObject>, AllocError>
     ensures { IfOk result (λ b. object_view b.value ≡ object_view object) }

@@ -1,9 +1,9 @@
 //! A value as a schema, as a list of schemas and as schemas by name.
 
 ghost use Rattle.std.specs.Prelude.{◌≡◌, [], IfOk, option_map, option_and_then, map, string_bytes, unwrap_or};
-ghost use Rattle.serde_json.specs.View.{view, items_view, members_view};
+ghost use Rattle.serde_json.specs.View.{view, items_view};
 ghost use Rattle.json_value.specs.View.{value_of, items_of};
-ghost use Rattle.schema_defs.specs.Schema.{Schema as ASchema, no_properties, object as object_of, schemas as schemas_of_list};
+ghost use Rattle.schema_defs.specs.Schema.{no_properties, object as object_of, schemas as schemas_of_list};
 ghost use Rattle.schema_defs.specs.Read.{item_readings, keyword as word, lists_of, named_of, places_of, properties_of, reading, same_of, schema_of, schemas_of, unless_empty};
 ghost use Rattle.schema_types.specs.View.{array_view, items_view as places_view, lists_of as lists_in, members_view as named_view, named_of as named_in, object_view, properties_view, same_of as same_in, schema_view, schemas_view, subschemas_view};
 ghost use Rattle.schema_reading.specs.Reading.{looked_up, readings};
@@ -12,7 +12,9 @@ ghost use Rattle.schema_reading.specs.Parts.{plain_view};
 use crate::keyword::{flag_at, size_at};
 use crate::list::names_at;
 use crate::part::{Plain, plain_keywords, stands};
-use schema_types::{ArrayValidation, Items, ObjectValidation, Schema, SchemaObject, Subschemas};
+use schema_types::{
+    ArrayValidation, Items, ObjectValidation, Schema, SchemaObject, Subschemas, as_schema,
+};
 use serde_json::Value;
 use serde_json::value::Map;
 use std::alloc::{AllocError, Global};
@@ -75,12 +77,6 @@ pub(crate) fn object_schema(
     };
     let whole = assembled(plain, subschemas, array, object);
     Ok(Some(as_schema(Box::new(alloc, whole)?)))
-}
-
-fn as_schema(object: Box<SchemaObject>) -> Schema
-    ensures { schema_view result ≡ object_view object.value }
-{
-    Schema::Object(object)
 }
 
 fn assembled(

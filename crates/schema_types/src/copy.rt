@@ -30,6 +30,38 @@ impl SchemaObject {
     }
 }
 
+impl StringValidation {
+    /// A copy. Fails only for want of memory.
+    pub fn try_clone(&self, alloc: Global) -> Result<StringValidation, AllocError>
+        ensures { IfOk result (λ t. texts_view t ≡ texts_view self.now) }
+    {
+        let patterns = copy_list_of_texts(alloc, &self.patterns)?;
+        Ok(StringValidation {
+            max_length: self.max_length,
+            min_length: self.min_length,
+            patterns,
+        })
+    }
+}
+
+impl ArrayValidation {
+    /// A copy, walks included.
+    pub fn try_clone(&self, alloc: Global) -> Result<ArrayValidation, AllocError>
+        ensures { IfOk result (λ a. array_view a ≡ array_view self.now) }
+    {
+        copy_array(alloc, self)
+    }
+}
+
+impl ObjectValidation {
+    /// A copy, walks included.
+    pub fn try_clone(&self, alloc: Global) -> Result<ObjectValidation, AllocError>
+        ensures { IfOk result (λ o. members_view o ≡ members_view self.now) }
+    {
+        copy_members(alloc, self)
+    }
+}
+
 impl Subschemas {
     /// A copy, walks included.
     pub fn try_clone(&self, alloc: Global) -> Result<Subschemas, AllocError>
@@ -120,7 +152,11 @@ fn copy_values(alloc: Global, from: &Option<Vec<Value>>) -> Result<Option<Vec<Va
     }
 }
 
-fn copy_type_names(alloc: Global, from: &Vec<InstanceType>) -> Result<Vec<InstanceType>, AllocError>
+/// Copies of names of types, in their order. Fails only for want of memory.
+pub fn copy_type_names(
+    alloc: Global,
+    from: &Vec<InstanceType>,
+) -> Result<Vec<InstanceType>, AllocError>
     ensures { IfOk result (λ v. v.items ≡ from.now.items) }
 {
     let mut copies = Vec::with_capacity(alloc, from.len())?;
@@ -158,16 +194,13 @@ fn copy_string(
     ensures { IfOk result (λ t. option_map texts_view t ≡ option_map texts_view from.now) }
 {
     match from {
-        Some(texts) => Ok(Some(StringValidation {
-            max_length: texts.max_length,
-            min_length: texts.min_length,
-            patterns: copy_list_of_texts(alloc, &texts.patterns)?,
-        })),
+        Some(texts) => Ok(Some(texts.try_clone(alloc)?)),
         None => Ok(None),
     }
 }
 
-fn copy_names(alloc: Global, from: &BTreeSet<String>) -> Result<BTreeSet<String>, AllocError>
+/// A copy of a set of names. Fails only for want of memory.
+pub fn copy_names(alloc: Global, from: &BTreeSet<String>) -> Result<BTreeSet<String>, AllocError>
     ensures { IfOk result (λ s. map string_bytes s.keys ≡ map string_bytes from.now.keys) }
 {
     let mut copies = BTreeSet::new(alloc);
@@ -223,16 +256,23 @@ fn copy_maybe_array(
     ensures { IfOk result (λ a. option_map array_view a ≡ option_map array_view from.now) }
 {
     match from {
-        Some(array) => Ok(Some(ArrayValidation {
-            items: copy_maybe_items(alloc, &array.items)?,
-            additional_items: copy_maybe(alloc, &array.additional_items)?,
-            contains: copy_maybe(alloc, &array.contains)?,
-            max_items: array.max_items,
-            min_items: array.min_items,
-            unique_items: array.unique_items,
-        })),
+        Some(array) => Ok(Some(copy_array(alloc, array)?)),
         None => Ok(None),
     }
+}
+
+#[cycle(copy)]
+fn copy_array(alloc: Global, from: &ArrayValidation) -> Result<ArrayValidation, AllocError>
+    ensures { IfOk result (λ a. array_view a ≡ array_view from.now) }
+{
+    Ok(ArrayValidation {
+        items: copy_maybe_items(alloc, &from.items)?,
+        additional_items: copy_maybe(alloc, &from.additional_items)?,
+        contains: copy_maybe(alloc, &from.contains)?,
+        max_items: from.max_items,
+        min_items: from.min_items,
+        unique_items: from.unique_items,
+    })
 }
 
 #[cycle(copy)]
@@ -256,17 +296,24 @@ fn copy_maybe_members(
     ensures { IfOk result (λ o. option_map members_view o ≡ option_map members_view from.now) }
 {
     match from {
-        Some(object) => Ok(Some(ObjectValidation {
-            max_properties: object.max_properties,
-            min_properties: object.min_properties,
-            required: copy_names(alloc, &object.required)?,
-            properties: copy_properties(alloc, &object.properties)?,
-            pattern_properties: copy_properties(alloc, &object.pattern_properties)?,
-            additional_properties: copy_maybe(alloc, &object.additional_properties)?,
-            property_names: copy_maybe(alloc, &object.property_names)?,
-        })),
+        Some(object) => Ok(Some(copy_members(alloc, object)?)),
         None => Ok(None),
     }
+}
+
+#[cycle(copy)]
+fn copy_members(alloc: Global, from: &ObjectValidation) -> Result<ObjectValidation, AllocError>
+    ensures { IfOk result (λ o. members_view o ≡ members_view from.now) }
+{
+    Ok(ObjectValidation {
+        max_properties: from.max_properties,
+        min_properties: from.min_properties,
+        required: copy_names(alloc, &from.required)?,
+        properties: copy_properties(alloc, &from.properties)?,
+        pattern_properties: copy_properties(alloc, &from.pattern_properties)?,
+        additional_properties: copy_maybe(alloc, &from.additional_properties)?,
+        property_names: copy_maybe(alloc, &from.property_names)?,
+    })
 }
 
 #[cycle(copy)]

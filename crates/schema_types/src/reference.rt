@@ -5,8 +5,8 @@ ghost use Rattle.std.specs.Prelude.{◌==◌};
 ghost use Rattle.schema_defs.specs.Location.{unescaped};
 ghost use Rattle.schema_defs.specs.Admits.{first_of, without_prefix};
 
-// The name as it is written, or nothing where the reference has neither prefix.
-pub(crate) fn written_name(reference: &str) -> Option<&str>
+/// The name as it is written, or nothing where the reference has neither prefix.
+pub fn written_name(reference: &str) -> Option<&str>
     ensures { option_map (λ n. n.now) result ≡ first_of (without_prefix (codes "#/definitions/") reference.now) (without_prefix (codes "#/$defs/") reference.now) }
 {
     match reference.strip_prefix("#/definitions/") {

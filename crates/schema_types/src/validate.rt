@@ -26,8 +26,8 @@ pub fn value_validate(schema: &Schema, value: &Value) -> bool
     }
 }
 
-// What `type` says.
-fn has_types(types: &Option<Types>, value: &Value) -> bool
+/// What `type` says. It takes no memory.
+pub fn has_types(types: &Option<Types>, value: &Value) -> bool
     ensures { result ≡ if_given (types_agree (kept_view value.now)) (option_map types_view types.now) }
 {
     match types {
@@ -43,7 +43,8 @@ fn is_one_of(value: &Value, kinds: &Vec<InstanceType>) -> bool
     kinds.iter().any(|kind| is_kind(value, *kind))
 }
 
-fn is_kind(value: &Value, kind: InstanceType) -> bool
+/// Whether the value has that type; a whole number is of both of its types.
+pub fn is_kind(value: &Value, kind: InstanceType) -> bool
     ensures { result ≡ has_kind (kept_view value.now) kind }
 {
     match value {
@@ -70,7 +71,8 @@ fn is_enumerated(values: &Option<Vec<Value>>, value: &Value) -> bool
     }
 }
 
-fn is_among(values: &Vec<Value>, value: &Value) -> bool
+/// Whether the value is one of these.
+pub fn is_among(values: &Vec<Value>, value: &Value) -> bool
     ensures { result ≡ is_listed (kept_view value.now) (map kept_view values.now.items) }
 {
     for other in values {
@@ -81,8 +83,8 @@ fn is_among(values: &Vec<Value>, value: &Value) -> bool
     false
 }
 
-// What `const` says.
-fn is_constant(constant: &Option<Value>, value: &Value) -> bool
+/// What `const` says. It takes no memory.
+pub fn is_constant(constant: &Option<Value>, value: &Value) -> bool
     ensures { result ≡ if_given (same_value (kept_view value.now)) (option_map kept_view constant.now) }
 {
     match constant {

@@ -1,12 +1,12 @@
 //! What a reference names.
-ghost use Rattle.std.specs.Prelude.{◌≡◌, ◌++◌, List, ℕ, true, IfOk, codes, option_map, string_bytes};
+ghost use Rattle.std.specs.Prelude.{◌≡◌, ◌++◌, List, ℕ, true, IfOk, option_map, string_bytes};
 ghost use Rattle.std.specs.Char.{encode_utf8};
 ghost use Rattle.schema_defs.specs.Location.{unescaped};
-ghost use Rattle.schema_defs.specs.Admits.{first_of, without_prefix};
 ghost use Rattle.convert_defs.specs.Table.{target_of};
 ghost use Rattle.tree_types.specs.View.{target_view};
 ghost use Rattle.tree_parts.specs.Decoding.{left_decodes};
 
+use schema_types::written_name;
 use std::alloc::{AllocError, Global};
 use tree_types::Target;
 
@@ -25,16 +25,6 @@ pub fn target_named(alloc: Global, reference: &str) -> Result<Option<Target>, Al
             Ok(Some(Target::Definition(name)))
         }
         None => Ok(None),
-    }
-}
-
-// The name as it is written, or nothing where the reference has neither prefix.
-fn written_name(reference: &str) -> Option<&str>
-    ensures { option_map (λ n. n.now) result ≡ first_of (without_prefix (codes "#/definitions/") reference.now) (without_prefix (codes "#/$defs/") reference.now) }
-{
-    match reference.strip_prefix("#/definitions/") {
-        Some(name) => Some(name),
-        None => reference.strip_prefix("#/$defs/"),
     }
 }
 

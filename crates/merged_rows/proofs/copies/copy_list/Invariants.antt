@@ -1,6 +1,0 @@
-use Rattle.std.proofs.Common.{◌≡◌, take}
-use Rattle.schema_types.specs.View.{schemas_view}
-use Rattle.merged_rows.proofs.copies.copy_list.Given as goal
-
-abbrev pub invariant-loop-schema : goal.invariant-loop-schema
-invariant-loop-schema l = schemas_view l.copies.items ≡ schemas_view (take l.schema-index l.schema-items)
