@@ -1,7 +1,7 @@
 -- Nulls are left out of listed values: the first that is neither a text nor null is the same.
 use Rattle.std.proofs.Common.{◌≡◌, List, [], ◌∷◌, Bool, true, false, refl, map, if◌then◌else◌}
 use Rattle.json_value.specs.Value.{Value, null, boolean, number, text, list, object, fraction}
-use Rattle.schema_types.specs.View.{kept_view}
+use Rattle.json_value.specs.View.{kept_view}
 use Rattle.convert_defs.specs.Scalars.{non_null}
 use Rattle.row_findings.specs.Given.{given_values_view}
 use Rattle.row_findings.specs.declared.given.GivenValues.{GivenValues}

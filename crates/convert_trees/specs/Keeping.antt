@@ -1,6 +1,6 @@
 -- What conversion keeps beside entries.
 use Rattle.std.specs.Prelude.{Bool, List, Option, drop, option_map}
-use Rattle.schema_types.specs.View.{kept_view as value_kept}
+use Rattle.json_value.specs.View.{kept_view as value_kept}
 use Rattle.entry_defs.specs.Table.{Table}
 use Rattle.tree_types.specs.View.{table_view}
 use Rattle.convert_walks.specs.Told.{Note}

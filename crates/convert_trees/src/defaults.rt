@@ -3,7 +3,8 @@ ghost use Rattle.std.specs.Prelude.{◌≡◌, ◌≤◌, ◌&&◌, not, filter,
 ghost use Rattle.json_value.specs.Value.{Value as ValueOf};
 ghost use Rattle.schema_defs.specs.Schema.{Schema as SchemaOf};
 ghost use Rattle.schema_defs.specs.Texts.{Relations};
-ghost use Rattle.schema_types.specs.View.{kept_view as value_kept, object_view, schema_view};
+ghost use Rattle.json_value.specs.View.{kept_view as value_kept};
+ghost use Rattle.schema_types.specs.View.{object_view, schema_view};
 ghost use Rattle.schema_tree.specs.Fault.{fault_view};
 ghost use Rattle.convert_defs.specs.Owners.{default_of as default_in};
 ghost use Rattle.convert_defs.specs.Row.{leaf_row};

@@ -1,7 +1,8 @@
 //! Faults at their places.
 ghost use Rattle.std.specs.Prelude.{◌≡◌, ℕ, ◌⊎◌, [], ◌∷◌, map, option_map};
 ghost use Rattle.run_io.specs.Bytes.{Rises};
-ghost use Rattle.schema_types.specs.View.{kept_view, object_view, schema_view};
+ghost use Rattle.json_value.specs.View.{kept_view};
+ghost use Rattle.schema_types.specs.View.{object_view, schema_view};
 ghost use Rattle.schema_tree.specs.Fault.{bad_value as bad_value_at, fault_view, memory, unsupported as unsupported_at};
 ghost use Rattle.convert_defs.specs.Row.{plainly, refused_row};
 ghost use Rattle.row_findings.specs.Given.{given_values_view, source_view};

@@ -1,7 +1,7 @@
 //! Stated values that aren't read: those that rules list, and then the default.
 ghost use Rattle.std.specs.Prelude.{◌≡◌, ◌≤◌, [], ◌∷◌, Some, IfErr, IfOk, OnOk, option_map};
 ghost use Rattle.schema_defs.specs.Texts.{Relations};
-ghost use Rattle.schema_types.specs.View.{kept_view as value_kept};
+ghost use Rattle.json_value.specs.View.{kept_view as value_kept};
 ghost use Rattle.schema_tree.specs.Fault.{fault_view, memory};
 ghost use Rattle.convert_defs.specs.Values.{inner_of, listed_by, listed_in};
 ghost use Rattle.row_findings.specs.Given.{source_view};

@@ -10,8 +10,7 @@ use Rattle.std.proofs.lemmas.Slice.Eq.{bytes_eq-Decides}
 use Rattle.serde_json.specs.View.{members_view}
 use Rattle.serde_json.specs.declared.value.Value.{Value as Json}
 use Rattle.json_value.specs.Value.{Value, has_name, member_at}
-use Rattle.json_value.specs.View.{members_of}
-use Rattle.schema_types.specs.View.{kept_view}
+use Rattle.json_value.specs.View.{members_of, kept_view}
 use Rattle.default_reading.specs.Steps.{Differ, only_of}
 
 abbrev pub Entry : Type 0

@@ -4,8 +4,7 @@ use Rattle.std.proofs.lemmas.List.{drop_more, drop_all}
 use Rattle.serde_json.specs.View.{items_view}
 use Rattle.serde_json.specs.declared.value.Value.{Value as Json}
 use Rattle.json_value.specs.Value.{item, item_count}
-use Rattle.json_value.specs.View.{items_of}
-use Rattle.schema_types.specs.View.{kept_view}
+use Rattle.json_value.specs.View.{items_of, kept_view}
 use Rattle.entry_defs.specs.Entry.{FieldEntry, entries_of, next_entry, next_field}
 use Rattle.entry_defs.specs.Layer.{is_field}
 use Rattle.tree_types.specs.View.{label_view}

@@ -2,8 +2,7 @@
 ghost use Rattle.std.specs.Prelude.{◌≡◌, ◌&&◌, IfErr, IfOk, option_map, string_bytes};
 ghost use Rattle.serde_json.specs.View.{members_view};
 ghost use Rattle.json_value.specs.Value.{member_at, text};
-ghost use Rattle.json_value.specs.View.{members_of};
-ghost use Rattle.schema_types.specs.View.{kept_view};
+ghost use Rattle.json_value.specs.View.{members_of, kept_view};
 ghost use Rattle.default_reading.specs.Steps.{given_at, only_of, has_beyond as has_beyond_in, is_passed as is_passed_of};
 
 use schema_tree::TextFault;

@@ -1,8 +1,7 @@
 //! Lists, objects and texts.
 ghost use Rattle.std.specs.Prelude.{◌≡◌, IfSome, option_map};
 ghost use Rattle.serde_json.specs.View.{items_view, members_view};
-ghost use Rattle.json_value.specs.View.{items_of, members_of};
-ghost use Rattle.schema_types.specs.View.{kept_view};
+ghost use Rattle.json_value.specs.View.{items_of, members_of, kept_view};
 ghost use Rattle.default_reading.specs.Steps.{Differ, as_list, as_object, as_text};
 
 use serde_json::Value;

@@ -1,8 +1,7 @@
 //! The parts of trees.
 ghost use Rattle.std.specs.Prelude.{◌≡◌, ◌&&◌, Option, Some, drop, option_map};
 ghost use Rattle.serde_json.specs.View.{members_view};
-ghost use Rattle.json_value.specs.View.{members_of};
-ghost use Rattle.schema_types.specs.View.{kept_view};
+ghost use Rattle.json_value.specs.View.{members_of, kept_view};
 ghost use Rattle.entry_defs.specs.Layer.{is_field as is_field_of, is_unit as is_unit_of};
 ghost use Rattle.tree_types.specs.View.{Parts, contents_view};
 ghost use Rattle.tree_types.specs.declared.tree.Tree.{Tree};

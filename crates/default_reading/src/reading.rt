@@ -3,8 +3,7 @@ ghost use Rattle.std.specs.Prelude.{◌≡◌, ◌≤◌, ◌+◌, ℕ, List, Op
 ghost use Rattle.run_io.specs.Bytes.{Rises};
 ghost use Rattle.serde_json.specs.View.{items_view, members_view};
 ghost use Rattle.json_value.specs.Value.{text};
-ghost use Rattle.json_value.specs.View.{items_of, members_of};
-ghost use Rattle.schema_types.specs.View.{kept_view};
+ghost use Rattle.json_value.specs.View.{items_of, members_of, kept_view};
 ghost use Rattle.model_defs.specs.Model.{adjacent_tag, external_tag, internal_tag};
 ghost use Rattle.entry_defs.specs.Entry.{array_entry, entries_of, enum_shape, fields_of, item, map_entry, newtype_shape, option_entry, reference, rest_of, struct_shape, tuple_entry, vec_entry};
 ghost use Rattle.entry_defs.specs.Layer.{contents_entry};

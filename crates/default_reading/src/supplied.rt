@@ -1,7 +1,7 @@
 //! What stated defaults come to.
 ghost use Rattle.std.specs.Prelude.{◌≡◌, ◌≤◌, IfOk, IsErrOf};
 ghost use Rattle.run_io.specs.Bytes.{Rises};
-ghost use Rattle.schema_types.specs.View.{kept_view};
+ghost use Rattle.json_value.specs.View.{kept_view};
 ghost use Rattle.tree_types.specs.View.{table_view, tree_view};
 ghost use Rattle.default_defs.specs.Supplied.{supplied};
 ghost use Rattle.default_reading.specs.Seen.{found_view};

@@ -9,7 +9,7 @@ use Rattle.attr_parts.specs.declared.derive.Derive.TheVariants.{Deserialize}
 use Rattle.attr_defs.specs.Renames.{Meaning}
 use Rattle.attr_defs.specs.Texts.{lexed}
 use Rattle.schema_defs.specs.Texts.{Relations}
-use Rattle.schema_types.specs.View.{kept_view}
+use Rattle.json_value.specs.View.{kept_view}
 use Rattle.schema_tree.specs.Conversions.{conversions_view}
 use Rattle.schema_tree.specs.declared.conversions.Conversions.{Conversions}
 use Rattle.model_defs.specs.Types.{TypeModel}

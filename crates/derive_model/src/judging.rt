@@ -4,7 +4,7 @@ ghost use Rattle.run_io.specs.Bytes.{Rises};
 ghost use Rattle.model_defs.specs.Types.{type_of};
 ghost use Rattle.reading_defs.specs.Proper.{has_json_numbers};
 ghost use Rattle.reading_defs.specs.Reading.{reading};
-ghost use Rattle.schema_types.specs.View.{kept_view};
+ghost use Rattle.json_value.specs.View.{kept_view};
 ghost use Rattle.syntax_trees.specs.View.{ty as ty_view};
 ghost use Rattle.typed_defs.specs.Written.{written};
 ghost use Rattle.value_models.specs.TypedView.{typed_view};

@@ -4,7 +4,7 @@ ghost use Rattle.std.specs.List.{list_all};
 ghost use Rattle.run_io.specs.Bytes.{Rises};
 ghost use Rattle.reading_defs.specs.Laws.{body_is_sound as body_sound, defaults_are_sound as defaults_sound, fields_are_sound as fields_sound, is_sound as default_sound};
 ghost use Rattle.reading_defs.specs.Proper.{has_json_numbers as value_has};
-ghost use Rattle.schema_types.specs.View.{kept_view};
+ghost use Rattle.json_value.specs.View.{kept_view};
 ghost use Rattle.value_models.specs.ContainerView.{body_view, containers_view};
 ghost use Rattle.value_models.specs.FieldView.{default_view, fields_view};
 ghost use Rattle.value_models.specs.TypeView.{type_view};

@@ -5,7 +5,7 @@ use Rattle.json_value.specs.Value.{Value}
 use Rattle.syntax_trees.specs.Item.{FieldD, VariantD, field_view as tree_view, variant_view as variant_tree}
 use Rattle.syntax_trees.specs.declared.item.Field.{Field}
 use Rattle.syntax_trees.specs.declared.item.Variant.{Variant}
-use Rattle.schema_types.specs.View.{kept_view}
+use Rattle.json_value.specs.View.{kept_view}
 use Rattle.entry_defs.specs.Space.{Id, FieldAt, VariantAt, Space}
 use Rattle.entry_types.specs.declared.item.FieldEntry.{FieldEntry}
 use Rattle.entry_types.specs.declared.item.VariantEntry.{VariantEntry}

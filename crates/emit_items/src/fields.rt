@@ -1,7 +1,7 @@
 //! Fields, with the stated defaults that they have.
 ghost use Rattle.std.specs.Prelude.{◌≡◌, ◌++◌, ◌∷◌, [], Some, length, map, IfOk, OnOk};
 ghost use Rattle.syntax_trees.specs.Item.{field_view as tree_view, fields_view};
-ghost use Rattle.schema_types.specs.View.{kept_view};
+ghost use Rattle.json_value.specs.View.{kept_view};
 ghost use Rattle.entry_defs.specs.Space.{entry_at};
 ghost use Rattle.entry_types.specs.View.{id_view, state_view, field_view, rest_at, content_view, entry_view};
 ghost use Rattle.emit_defs.specs.Models.{state_defaults};

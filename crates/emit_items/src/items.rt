@@ -4,7 +4,7 @@ ghost use Rattle.token_trees.specs.Text.{text_of};
 ghost use Rattle.syntax_trees.specs.View.{ty};
 ghost use Rattle.syntax_trees.specs.Item.{variant_view as tree_view, item_view};
 ghost use Rattle.syntax_printing.specs.Print.{print_ty};
-ghost use Rattle.schema_types.specs.View.{kept_view};
+ghost use Rattle.json_value.specs.View.{kept_view};
 ghost use Rattle.schema_tree.specs.Conversions.{rule_view};
 ghost use Rattle.entry_defs.specs.Space.{Id, struct_shape_at, enum_shape_at, newtype_shape_at};
 ghost use Rattle.entry_types.specs.View.{id_view, tag_view, field_view, rest_at, variant_view, shape_view};

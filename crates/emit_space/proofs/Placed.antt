@@ -10,7 +10,7 @@ use Rattle.space_defs.specs.Items.{ItemAt, item_then, items_from}
 use Rattle.space_defs.specs.Trees.{shape_defaults_at, item_constraints_at, item_tree_at, item_trees_at}
 use Rattle.json_value.specs.Value.{Value}
 use Rattle.serde_json.specs.declared.value.Value as json
-use Rattle.schema_types.specs.View.{kept_view}
+use Rattle.json_value.specs.View.{kept_view}
 use Rattle.model_defs.specs.Model.{ConstraintD}
 use Rattle.emit_types.specs.Asked.{space_view}
 use Rattle.emit_types.proofs.Pieces.{grown}

@@ -2,7 +2,7 @@
 ghost use Rattle.std.specs.Prelude.{◌≡◌, ◌++◌, [], length, map, flat_map, IfOk, OnOk, string_bytes};
 ghost use Rattle.syntax_trees.specs.View.{ty};
 ghost use Rattle.syntax_trees.specs.Item.{item_view};
-ghost use Rattle.schema_types.specs.View.{kept_view};
+ghost use Rattle.json_value.specs.View.{kept_view};
 ghost use Rattle.schema_tree.specs.Conversions.{constraint_view};
 ghost use Rattle.entry_types.specs.View.{id_view, shape_view, entry_view};
 ghost use Rattle.space_defs.specs.Items.{item_then, items_at};

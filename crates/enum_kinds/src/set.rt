@@ -1,6 +1,7 @@
 //! Sets of kinds, and those that `type`, `enum` and `const` leave open.
 ghost use Rattle.std.specs.Prelude.{◌≡◌, map, option_map};
-ghost use Rattle.schema_types.specs.View.{kept_view, types_view, schema_view};
+ghost use Rattle.json_value.specs.View.{kept_view};
+ghost use Rattle.schema_types.specs.View.{types_view, schema_view};
 ghost use Rattle.enum_defs.specs.Kinds.{every_kind as every_kind_of, no_kind as no_kind_of, meet as meet_of, join as join_of, kind_of_type as kind_of_type_of, kind_of_value as kind_of_value_of, union, or_every, kinds_of_types as kinds_of_types_of, own_kinds as own_kinds_of};
 ghost use Rattle.enum_defs.specs.Exclusive.{is_disjoint as is_disjoint_of};
 

@@ -1,7 +1,8 @@
 //! The external shape: texts alone, or objects of one property.
 ghost use Rattle.std.specs.Prelude.{◌≡◌, ◌++◌, ◌∷◌, [], Some, OnOk, IfOk, MatchOption, map, option_map};
 ghost use Rattle.schema_defs.specs.Schema.{property, no_properties};
-ghost use Rattle.schema_types.specs.View.{kept_view, schema_view, schemas_view, members_view, properties_view};
+ghost use Rattle.json_value.specs.View.{kept_view};
+ghost use Rattle.schema_types.specs.View.{schema_view, schemas_view, members_view, properties_view};
 ghost use Rattle.enum_defs.specs.Words.{all_some};
 ghost use Rattle.enum_defs.specs.Shapes.{external_shape as external_shape_of, all_cases, external_cases as external_cases_of, text_cases as text_cases_of, text_case as text_case_of, may_list_texts as may_list_texts_of, listed_texts, texts_of as texts_in, property_case as property_case_of, only_property as only_property_of, if_differ};
 ghost use Rattle.enum_shapes.specs.View.{case_view, shape_view};

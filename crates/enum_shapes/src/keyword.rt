@@ -1,7 +1,8 @@
 //! Single keywords: types, nulls and texts.
 ghost use Rattle.std.specs.Prelude.{◌≡◌, None, Some, map, option_map};
 ghost use Rattle.std.specs.List.{list_all};
-ghost use Rattle.schema_types.specs.View.{kept_view, types_view, schema_view};
+ghost use Rattle.json_value.specs.View.{kept_view};
+ghost use Rattle.schema_types.specs.View.{types_view, schema_view};
 ghost use Rattle.enum_defs.specs.Words.{same_type as same_type_of, has_type as has_type_of, is_null as is_null_value, as_text as text_in};
 ghost use Rattle.enum_defs.specs.Shapes.{null_by, is_null_schema as is_null_schema_of, text_by as text_by_of, may_be_text as may_be_text_of, holds_text_at_most as holds_text_at_most_of, held_text as held_text_of, constant_text as constant_text_of};
 

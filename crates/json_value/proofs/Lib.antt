@@ -1,3 +1,4 @@
 pub mod Equality
 pub mod Lockstep
+pub mod Lookups
 pub mod Parts

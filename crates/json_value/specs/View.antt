@@ -1,5 +1,7 @@
 -- The JSON value that the data of serde_json stands for.
 use Rattle.std.specs.Prelude.{pos}
+use Rattle.serde_json.specs.declared.value.Value as json
+use Rattle.serde_json.specs.View as read
 use Rattle.serde_json.specs.Data as data'
 use Rattle.serde_json.specs.Data.{Data, Num, unsigned, negative, float}
 use Rattle.json_value.specs.Value.{Value, Items, Members, null, boolean, number, fraction, text, list, object, no_items, item, no_members, member}
@@ -25,3 +27,7 @@ abbrev mutual
   pub members_of : data'.Members → Members
   members_of data'.no_members = no_members
   members_of (data'.member k d ms) = member k (value_of d) (members_of ms)
+
+-- what a value that the program keeps stands for
+abbrev pub kept_view : json.Value → Value
+kept_view v = value_of (read.view v)

@@ -2,7 +2,7 @@
 ghost use Rattle.std.specs.Prelude.{◌≡◌, ◌&&◌, ◌||◌, is_none, is_some, Some, IfOk, option_map};
 ghost use Rattle.schema_defs.specs.Texts.{Relations};
 ghost use Rattle.json_value.specs.Value.{text as text_value};
-ghost use Rattle.schema_types.specs.View.{kept_view};
+ghost use Rattle.json_value.specs.View.{kept_view};
 ghost use Rattle.enum_defs.specs.Words.{as_text, has_type as has_type_of, is_bare as is_bare_of, without_same, without_lists, without_named};
 ghost use Rattle.entry_defs.specs.Entry.{integer_entry};
 ghost use Rattle.convert_defs.specs.Row.{add_notes, asking, noted as noted_as, leaf_row};

@@ -3,7 +3,7 @@ use Rattle.std.proofs.Common.{◌≡◌, Bool, true, false, ◌&&◌, not, cond,
 use Rattle.std.specs.Prelude.{filter, Option, if◌then◌else◌}
 use Rattle.json_value.specs.Value.{Value}
 use Rattle.schema_defs.specs.Texts.{Relations}
-use Rattle.schema_types.specs.View.{kept_view}
+use Rattle.json_value.specs.View.{kept_view}
 use Rattle.model_defs.specs.Layer.{is_null}
 use Rattle.entry_defs.specs.Entry.{Entry}
 use Rattle.entry_defs.specs.Table.{Table}

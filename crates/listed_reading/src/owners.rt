@@ -1,6 +1,6 @@
 //! Lists and objects, which aren't looked into.
 ghost use Rattle.std.specs.Prelude.{◌≡◌, false, IfErr, OnOk};
-ghost use Rattle.schema_types.specs.View.{kept_view};
+ghost use Rattle.json_value.specs.View.{kept_view};
 ghost use Rattle.listed_reading.specs.Owners.{is_list as is_list_value, is_object as is_object_value};
 
 use schema_tree::TextFault;

@@ -2,7 +2,8 @@
 ghost use Rattle.std.specs.Prelude.{◌≡◌, ◌≤◌, IfOk, IsErrOf};
 ghost use Rattle.std.specs.List.{list_any};
 ghost use Rattle.run_io.specs.Bytes.{Rises};
-ghost use Rattle.schema_types.specs.View.{kept_view, properties_view, texts_view};
+ghost use Rattle.json_value.specs.View.{kept_view};
+ghost use Rattle.schema_types.specs.View.{properties_view, texts_view};
 ghost use Rattle.model_defs.specs.Layer.{has_one_of as has_one_of_in, rule_agrees};
 ghost use Rattle.convert_defs.specs.Owners.{pattern_names};
 ghost use Rattle.convert_defs.specs.Scalars.{rule_of_texts};

@@ -2,7 +2,7 @@
 ghost use Rattle.std.specs.Prelude.{◌≡◌, ℕ, List, Bool, IfErr, IfOk, option_map, unwrap_or};
 ghost use Rattle.std.specs.List.{list_any};
 ghost use Rattle.schema_defs.specs.Texts.{Relations};
-ghost use Rattle.schema_types.specs.View.{kept_view};
+ghost use Rattle.json_value.specs.View.{kept_view};
 ghost use Rattle.enum_defs.specs.Words.{as_text as as_text_of};
 ghost use Rattle.model_defs.specs.Model.{external_tag};
 ghost use Rattle.entry_defs.specs.Entry.{item, enum_shape, variants_of};

@@ -2,7 +2,8 @@
 ghost use Rattle.std.specs.Prelude.{◌≡◌, ◌&&◌, nat_le, length, filter, is_none, Some, None, map, option_map};
 ghost use Rattle.enum_defs.specs.Shapes.{the_only};
 ghost use Rattle.std.specs.List.{list_any, list_all};
-ghost use Rattle.schema_types.specs.View.{kept_view, schema_view};
+ghost use Rattle.json_value.specs.View.{kept_view};
+ghost use Rattle.schema_types.specs.View.{schema_view};
 ghost use Rattle.enum_defs.specs.Words.{same_type as same_type_of, without_same, without_lists, without_named};
 ghost use Rattle.convert_defs.specs.Shapes.{option_member as option_member_of, one_null as one_null_of, is_plain_null as is_plain_null_of, is_odd_null as is_odd_null_of};
 ghost use Rattle.convert_defs.specs.Table.{one_null_member};

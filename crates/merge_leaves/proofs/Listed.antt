@@ -4,7 +4,7 @@ use Rattle.std.specs.Prelude.{filter}
 use Rattle.std.proofs.lemmas.List.{drop_all, map_push}
 use Rattle.serde_json.specs.declared.value.Value as json
 use Rattle.json_value.specs.Value.{Value}
-use Rattle.schema_types.specs.View.{kept_view}
+use Rattle.json_value.specs.View.{kept_view}
 use Rattle.merge_leaves.specs.declared.kept.Keep.{Keep}
 use Rattle.merge_leaves.specs.Keep.{keeps}
 use Rattle.merge_parts.proofs.Loops.{mapped_drop}

@@ -2,7 +2,8 @@
 use Rattle.std.specs.Prelude.{◌&&◌, not, Bool, map, option_map}
 use Rattle.json_value.specs.Value.{Value, same}
 use Rattle.schema_defs.specs.Layer.{if_given, is_listed, types_agree}
-use Rattle.schema_types.specs.View.{kept_view, types_view}
+use Rattle.json_value.specs.View.{kept_view}
+use Rattle.schema_types.specs.View.{types_view}
 use Rattle.merge_leaves.specs.declared.kept.Keep.{Keep}
 use Rattle.merge_leaves.specs.declared.kept.Keep.TheVariants.{Equal, Listed, Unlisted, Allowed}
 

@@ -3,7 +3,7 @@ use Rattle.std.specs.Prelude.{List, Option, Vec, map, option_map}
 use Rattle.std.specs.declared.alloc.Global.{Global}
 use Rattle.serde_json.specs.declared.value.Value as json
 use Rattle.json_value.specs.Value.{Value}
-use Rattle.schema_types.specs.View.{kept_view}
+use Rattle.json_value.specs.View.{kept_view}
 use Rattle.merge_defs.specs.Leaves as defs
 use Rattle.merge_defs.specs.Leaves.{unbounded, inclusive, exclusive}
 use Rattle.merge_leaves.specs.declared.bounds.Bound.{Bound}

@@ -1,6 +1,6 @@
 //! Listed values that are kept.
 ghost use Rattle.std.specs.Prelude.{◌≡◌, IfOk, map, filter};
-ghost use Rattle.schema_types.specs.View.{kept_view};
+ghost use Rattle.json_value.specs.View.{kept_view};
 ghost use Rattle.merge_leaves.specs.Keep.{keeps as keeps_of};
 
 use json_value::same;

@@ -1,7 +1,8 @@
 //! Merging listed values.
 ghost use Rattle.std.specs.Prelude.{◌≡◌, ◌∷◌, [], IfOk, map, option_map};
 ghost use Rattle.schema_defs.specs.Schema.{Plain};
-ghost use Rattle.schema_types.specs.View.{kept_view, types_view};
+ghost use Rattle.json_value.specs.View.{kept_view};
+ghost use Rattle.schema_types.specs.View.{types_view};
 ghost use Rattle.merge_defs.specs.Outcome.{where_both};
 ghost use Rattle.merge_defs.specs.Leaves.{listed_values, some_values as some_values_of, two_lists as two_lists_of};
 ghost use Rattle.merge_defs.specs.Less.{less_values as less_values_of};

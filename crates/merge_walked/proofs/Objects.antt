@@ -1,7 +1,8 @@
 -- The view of an object of keywords, and of one with another walk.
 use Rattle.std.proofs.Common.{◌≡◌, Option, Some, None, option_map, string_bytes, map, unwrap_or, refl, sym, ap, ◌∙◌}
 use Rattle.schema_defs.specs.Schema.{Plain, Schema, object, Same, Lists, Named, Places}
-use Rattle.schema_types.specs.View.{kept_view, types_view, numbers_view, texts_view, same_of, lists_of, named_of, items_step, schema_step, array_step, members_step, object_step, subschemas_step, array_view, members_view, object_view, subschemas_view}
+use Rattle.json_value.specs.View.{kept_view}
+use Rattle.schema_types.specs.View.{types_view, numbers_view, texts_view, same_of, lists_of, named_of, items_step, schema_step, array_step, members_step, object_step, subschemas_step, array_view, members_view, object_view, subschemas_view}
 use Rattle.schema_types.specs.declared.schema.Items.TheShapes.{former-SchemaObject-subschemas, former-SchemaObject-array, former-SchemaObject-object}
 use Rattle.schema_types.specs.declared.schema.SchemaObject.{SchemaObject, out-SchemaObject, roll-SchemaObject, fold_out-SchemaObject, fold-roll-SchemaObject}
 use Rattle.schema_types.specs.declared.schema.Subschemas.{Subschemas}

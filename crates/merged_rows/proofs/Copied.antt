@@ -2,7 +2,8 @@
 use Rattle.std.proofs.Common.{◌≡◌, ℕ, List, Option, Some, None, option_map, map, string_bytes, String, Vec, Global, refl, ap, ◌∙◌}
 use Rattle.serde_json.specs.declared.value.Value as json
 use Rattle.schema_defs.specs.Schema.{Schema, object, Same, Lists, Named, Places}
-use Rattle.schema_types.specs.View.{kept_view, types_view, numbers_view, texts_view, same_of, lists_of, named_of, items_step, schema_step, array_step, members_step, object_step, subschemas_step, array_view, members_view, object_view, subschemas_view}
+use Rattle.json_value.specs.View.{kept_view}
+use Rattle.schema_types.specs.View.{types_view, numbers_view, texts_view, same_of, lists_of, named_of, items_step, schema_step, array_step, members_step, object_step, subschemas_step, array_view, members_view, object_view, subschemas_view}
 use Rattle.schema_types.specs.declared.schema.Items.TheShapes.{former-SchemaObject-subschemas, former-SchemaObject-array, former-SchemaObject-object}
 use Rattle.schema_types.specs.declared.schema.SchemaObject.{roll-SchemaObject, fold-roll-SchemaObject}
 use Rattle.schema_types.specs.declared.schema.Subschemas.{Subschemas}

@@ -8,7 +8,8 @@ use Rattle.convert_defs.specs.Standing.{less_reference}
 use Rattle.merge_defs.specs.Outcome.{Outcome}
 use Rattle.merge_walks.specs.Carried.{Walk, root_walk, own_walk, carried}
 use Rattle.merge_walks.specs.Walked.{merge_by_walks, with_by_walks}
-use Rattle.schema_types.specs.View.{kept_view, schema_view}
+use Rattle.json_value.specs.View.{kept_view}
+use Rattle.schema_types.specs.View.{schema_view}
 use Rattle.convert_walks.specs.Spot.{Spot, part_schema, part_spot}
 use Rattle.convert_walks.specs.Merging.{annotated, carried_parts}
 use Rattle.convert_walks.specs.Tree as tree

@@ -1,7 +1,8 @@
 //! What stands in place of a schema whose row merges.
 ghost use Rattle.std.specs.Prelude.{◌≡◌, [], IfOk, List, Some, option_map, string_bytes};
 ghost use Rattle.schema_defs.specs.Schema.{Schema as SchemaOf};
-ghost use Rattle.schema_types.specs.View.{kept_view, object_view, schema_view};
+ghost use Rattle.json_value.specs.View.{kept_view};
+ghost use Rattle.schema_types.specs.View.{object_view, schema_view};
 ghost use Rattle.convert_defs.specs.Convert.{Handed};
 ghost use Rattle.convert_walks.specs.Spot.{is_made_schema, made_by as made_by_of};
 ghost use Rattle.convert_walks.specs.Tree.{answered_as, instead, plain_of};

@@ -3,7 +3,8 @@ ghost use Rattle.std.specs.Prelude.{◌≡◌, IfOk, map, not, option_map, strin
 ghost use Rattle.model_defs.specs.Layer.{is_null as is_null_of};
 ghost use Rattle.convert_defs.specs.Scalars.{non_null as non_null_of};
 ghost use Rattle.merge_walks.specs.Carried.{carried as carried_of};
-ghost use Rattle.schema_types.specs.View.{array_view, kept_view, members_view, object_view, same_of, schema_view, subschemas_view, texts_view, types_view};
+ghost use Rattle.json_value.specs.View.{kept_view};
+ghost use Rattle.schema_types.specs.View.{array_view, members_view, object_view, same_of, schema_view, subschemas_view, texts_view, types_view};
 ghost use Rattle.row_findings.specs.Given.{given_types_view, given_values_view, keywords_view, source_view};
 ghost use Rattle.merged_rows.specs.Rows.{subschemas_in, without_reference as without_reference_of, without_subschemas};
 

@@ -1,7 +1,8 @@
 //! The fields of structs: one for each property, and what stands outside `properties`.
 ghost use Rattle.std.specs.Prelude.{◌≡◌, ◌++◌, [], ◌∷◌, false, IfOk, not, map, option_map, string_bytes, if◌then◌else◌};
 ghost use Rattle.schema_defs.specs.Layer.{property_at, is_given};
-ghost use Rattle.schema_types.specs.View.{schema_view, properties_view, maybe_view, kept_view};
+ghost use Rattle.json_value.specs.View.{kept_view};
+ghost use Rattle.schema_types.specs.View.{schema_view, properties_view, maybe_view};
 ghost use Rattle.convert_defs.specs.Owners.{state_of, default_of as default_in, may_be_null as may_be_null_of, property_fields as property_fields_of, outside_names as outside_names_of, outside_row as outside_row_of, is_empty};
 ghost use Rattle.row_findings.specs.View.{state_view, field_view, outside_view};
 ghost use Rattle.object_rows.specs.Parts.{field_of};

@@ -2,7 +2,8 @@
 use Rattle.std.proofs.Common.{◌≡◌, Bool, false, ◌||◌, Option, Some, None, Box, Vec, Global, option_map, string_bytes, map, refl, sym, ap, ◌∙◌}
 use Rattle.schema_defs.specs.Schema as defs
 use Rattle.schema_defs.specs.Schema.{Same, no_same, same_value, Lists, no_lists, lists, Named, no_named, named, Places, no_items}
-use Rattle.schema_types.specs.View.{kept_view, types_view, numbers_view, texts_view, same_of, lists_of, named_of, maybe_of, maybe_list, places_of, items_step, schema_step, array_step, members_step, object_step, subschemas_step, schema_view, items_view, array_view, members_view, object_view, subschemas_view, properties_view, maybe_view, maybe_list_view}
+use Rattle.json_value.specs.View.{kept_view}
+use Rattle.schema_types.specs.View.{types_view, numbers_view, texts_view, same_of, lists_of, named_of, maybe_of, maybe_list, places_of, items_step, schema_step, array_step, members_step, object_step, subschemas_step, schema_view, items_view, array_view, members_view, object_view, subschemas_view, properties_view, maybe_view, maybe_list_view}
 use Rattle.schema_types.specs.declared.schema.Schema.{Schema}
 use Rattle.schema_types.specs.declared.schema.Items.TheShapes.{former-SchemaObject-subschemas, former-SchemaObject-array, former-SchemaObject-object, former-Subschemas-all_of, former-ArrayValidation-items, former-ArrayValidation-additional_items}
 use Rattle.schema_types.specs.declared.schema.SchemaObject.{SchemaObject, out-SchemaObject, fold_out-SchemaObject}

@@ -2,7 +2,8 @@
 use Rattle.std.specs.Prelude.{ℕ, List, map, Bool, Option, Some, None, option_map, string_bytes, if◌then◌else◌}
 use Rattle.std.specs.declared.boxed.Box.{Box}
 use Rattle.json_value.specs.Value.{Value}
-use Rattle.schema_types.specs.View.{kept_view, numbers_view, texts_view, schema_view, same_of, lists_of, named_of, subschemas_view, array_view, members_view}
+use Rattle.json_value.specs.View.{kept_view}
+use Rattle.schema_types.specs.View.{numbers_view, texts_view, schema_view, same_of, lists_of, named_of, subschemas_view, array_view, members_view}
 use Rattle.schema_defs.specs.Schema.{Types, one_type, many_types, Plain, Schema, boolean, object, Same, Lists, Named}
 use Rattle.convert_defs.specs.Scalars.{non_null}
 use Rattle.row_findings.specs.declared.given.GivenTypes.{GivenTypes}

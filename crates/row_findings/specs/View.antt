@@ -3,7 +3,8 @@ use Rattle.std.specs.Prelude.{ℕ, List, [], ◌∷◌, map, Bool, false, Option
 use Rattle.std.specs.List.{list_any}
 use Rattle.std.specs.declared.alloc.Global.{Global}
 use Rattle.json_value.specs.Value.{text}
-use Rattle.schema_types.specs.View.{kept_view, texts_view, schema_view, properties_view}
+use Rattle.json_value.specs.View.{kept_view}
+use Rattle.schema_types.specs.View.{texts_view, schema_view, properties_view}
 use Rattle.schema_defs.specs.Location.{Step, Location, place}
 use Rattle.schema_defs.specs.Texts.{Relations}
 use Rattle.schema_defs.specs.Schema.{Schema}

@@ -1,6 +1,7 @@
 //! A schema as conversion sees it: a written one, or one that a row puts in its place by keywords taken away or changed.
 ghost use Rattle.std.specs.Prelude.{◌≡◌, map, option_map};
-ghost use Rattle.schema_types.specs.View.{object_view, types_view, kept_view};
+ghost use Rattle.json_value.specs.View.{kept_view};
+ghost use Rattle.schema_types.specs.View.{object_view, types_view};
 ghost use Rattle.schema_defs.specs.Schema.{no_same, no_lists, no_named};
 ghost use Rattle.convert_defs.specs.Standing.{alone, no_keyword as no_keyword_of};
 ghost use Rattle.row_findings.specs.Given.{plain_view, same_view, lists_view, named_view, keywords_view, given_types_view, given_values_view};

@@ -4,7 +4,7 @@ use Rattle.std.specs.List.{list_any, list_all}
 use Rattle.std.specs.Prelude.{filter, map, Option, None, if◌then◌else◌}
 use Rattle.json_value.specs.Value.{Value}
 use Rattle.schema_defs.specs.Texts.{Relations}
-use Rattle.schema_types.specs.View.{kept_view}
+use Rattle.json_value.specs.View.{kept_view}
 use Rattle.model_defs.specs.Layer.{is_null}
 use Rattle.convert_defs.specs.Scalars.{non_null, kept_texts, distinct, texts_in, listed_entry, texts_entry}
 use Rattle.row_findings.specs.declared.given.GivenValues.{GivenValues}

@@ -2,7 +2,7 @@
 ghost use Rattle.std.specs.Prelude.{◌≡◌, false, [], ◌∷◌, Some, IfOk, map, option_map, if◌then◌else◌};
 ghost use Rattle.std.specs.List.{list_any, list_all};
 ghost use Rattle.json_value.specs.Value.{text as text_value};
-ghost use Rattle.schema_types.specs.View.{kept_view};
+ghost use Rattle.json_value.specs.View.{kept_view};
 ghost use Rattle.schema_defs.specs.Texts.{Relations};
 ghost use Rattle.convert_defs.specs.Standing.{alone};
 ghost use Rattle.model_defs.specs.Layer.{is_null as null_value};

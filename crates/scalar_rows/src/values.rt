@@ -2,7 +2,7 @@
 ghost use Rattle.std.specs.Prelude.{◌≡◌, map};
 ghost use Rattle.std.specs.List.{list_any, list_all};
 ghost use Rattle.json_value.specs.Value.{boolean as boolean_value, same as same_value};
-ghost use Rattle.schema_types.specs.View.{kept_view};
+ghost use Rattle.json_value.specs.View.{kept_view};
 ghost use Rattle.schema_defs.specs.Layer.{is_listed};
 ghost use Rattle.row_findings.specs.Given.{given_values_view};
 ghost use Rattle.model_defs.specs.Layer.{is_null as null_value};

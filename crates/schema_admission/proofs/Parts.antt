@@ -5,12 +5,11 @@ use Rattle.serde_json.specs.View.{items_view, members_view}
 use Rattle.serde_json.proofs.Views.{view-Array, view-Object}
 use Rattle.serde_json.specs.declared.value.Value.{Value as Json, Array, Object}
 use Rattle.json_value.specs.Value.{Value, Members, member, no_members, value_size, items_size, members_size, object}
-use Rattle.json_value.specs.View.{items_of, members_of}
+use Rattle.json_value.specs.View.{items_of, members_of, kept_view}
 use Rattle.schema_defs.specs.Schema.{Schema, Named, named, no_named, Definition, Document}
 use Rattle.schema_defs.specs.Texts.{Relations}
 use Rattle.schema_defs.specs.Layer.{named_agree}
 use Rattle.schema_defs.specs.Admits.{admits, admits_with, admits-level, allowed, target, defined, defined_as, definition_name, is_root_reference, follows, follow, parts_of, member_parts}
-use Rattle.schema_types.specs.View.{kept_view}
 use Rattle.schema_defs.specs.Counts.{schema_nodes, definitions_nodes, nodes as document_nodes}
 use Rattle.schema_admission.specs.Judging.{named_member, rules_part}
 

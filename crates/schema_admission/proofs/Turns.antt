@@ -7,13 +7,13 @@ use Rattle.std.proofs.lemmas.Bool.Decides.{nat_tests}
 use Rattle.serde_json.specs.View.{items_view}
 use Rattle.serde_json.specs.declared.value.Value.{Value as Json}
 use Rattle.json_value.specs.Value.{Value, Items, item, no_items, item_count}
-use Rattle.json_value.specs.View.{items_of}
+use Rattle.json_value.specs.View.{items_of, kept_view}
 use Rattle.schema_defs.specs.Schema.{Schema, Schemas, no_more, schema, schemas, the_list, the_schema, Document, MaybeSchema}
 use Rattle.schema_defs.specs.Counts.{schemas_nodes, maybe_nodes}
 use Rattle.schema_defs.specs.Texts.{Relations}
 use Rattle.schema_defs.specs.Layer.{Judge, Parts, judge, by_places, maybe, judge_all, judge_count, judge_any}
 use Rattle.schema_defs.specs.Admits.{admits, item_judges, parts_of, follows}
-use Rattle.schema_types.specs.View.{kept_view, schema_view, schemas_view}
+use Rattle.schema_types.specs.View.{schema_view, schemas_view}
 use Rattle.schema_types.specs.declared.schema.Schema as tree
 use Rattle.schema_admission.specs.Judging.{count_agrees, list_agrees, admitting_count, admitted_count, place_schema, places_from}
 use Rattle.schema_admission.specs.declared.wanted.Wanted.{Wanted}

@@ -2,7 +2,7 @@
 use Rattle.std.proofs.Common.{◌≡◌, ℕ, suc, ◌+◌, List, [], ◌∷◌, length, Bool, true, false, not, ◌&&◌, ◌||◌, Option, Some, None, option_map, Box, Vec, Global, string_bytes, map, rules, refl, sym, ap, ◌∙◌}
 use Rattle.json_value.specs.Value as value
 use Rattle.json_value.specs.Value.{Value, same, number, fraction, text, list, null, item_count, Members, member_count, has_name}
-use Rattle.json_value.specs.View.{items_of}
+use Rattle.json_value.specs.View.{items_of, kept_view}
 use Rattle.serde_json.specs.View.{items_view as seen_items}
 use Rattle.serde_json.specs.declared.value.Value.{Value as Json}
 use Rattle.schema_defs.specs.Schema as defs
@@ -10,7 +10,7 @@ use Rattle.schema_defs.specs.Schema.{Plain, Schema, boolean, object, Same, same_
 use Rattle.schema_defs.specs.Texts.{Relations}
 use Rattle.schema_defs.specs.Layer.{Judge, MemberPart, is_passed_over, of_kind_agrees, if_given, types_agree, is_listed, parts_agree, lists_agree, items_agree, contains_agrees, within, all_distinct, maybe, property_at, patterns_agree, is_given, has_any}
 use Rattle.schema_defs.specs.Admits.{admits_with, parts_of, name_admits}
-use Rattle.schema_types.specs.View.{kept_view, types_view, numbers_view, texts_view, maybe_of, same_of, lists_of, named_of, places_of, maybe_list, items_step, schema_step, array_step, members_step, object_step, subschemas_step, schema_view, items_view, array_view, members_view, object_view, subschemas_view, schemas_view, properties_view, maybe_view, maybe_list_view}
+use Rattle.schema_types.specs.View.{types_view, numbers_view, texts_view, maybe_of, same_of, lists_of, named_of, places_of, maybe_list, items_step, schema_step, array_step, members_step, object_step, subschemas_step, schema_view, items_view, array_view, members_view, object_view, subschemas_view, schemas_view, properties_view, maybe_view, maybe_list_view}
 use Rattle.schema_types.specs.declared.schema.Schema as tree
 use Rattle.schema_types.specs.declared.schema.Schema.{Object, the_lemmas}
 use Rattle.std.specs.List.{list_all}

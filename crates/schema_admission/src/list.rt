@@ -4,11 +4,11 @@ ghost use Rattle.std.specs.List.{list_all, list_any};
 ghost use Rattle.std.specs.Option.{option_copied};
 ghost use Rattle.serde_json.specs.View.{items_view, members_view};
 ghost use Rattle.json_value.specs.Value.{has_name as has_name_in, is_among as is_among_in, text as text_in};
-ghost use Rattle.json_value.specs.View.{items_of, members_of};
+ghost use Rattle.json_value.specs.View.{items_of, members_of, kept_view};
 ghost use Rattle.schema_defs.specs.Layer.{all_distinct as all_distinct_in, if_given, property_at};
 ghost use Rattle.schema_defs.specs.Admits.{counts_as_absent as counts_as_absent_in};
 ghost use Rattle.schema_defs.specs.Schema.{no_schema, schemas as schemas_in};
-ghost use Rattle.schema_types.specs.View.{kept_view, maybe_view, members_view as members_seen, properties_view, schemas_view};
+ghost use Rattle.schema_types.specs.View.{maybe_view, members_view as members_seen, properties_view, schemas_view};
 ghost use Rattle.schema_admission.specs.Judging.{maybe_seen, place_schema, rules_part};
 
 use crate::plain::{both, is_within};

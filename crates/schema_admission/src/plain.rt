@@ -2,7 +2,8 @@
 ghost use Rattle.std.specs.Prelude.{◌≡◌, ◌&&◌, ◌||◌, ◌+◌, ◌<◌, ◌^◌, suc, if◌then◌else◌, pos, map, option_map, int_le, int_lt, int_rem};
 ghost use Rattle.std.specs.Ordering.{int_eq};
 ghost use Rattle.schema_defs.specs.Layer.{if_given, is_kind, is_listed as is_listed_in, number_format_agrees, numbers_agree as numbers_say, types_agree as types_say, within as within_both};
-ghost use Rattle.schema_types.specs.View.{kept_view, numbers_view, types_view};
+ghost use Rattle.json_value.specs.View.{kept_view};
+ghost use Rattle.schema_types.specs.View.{numbers_view, types_view};
 ghost use Rattle.schema_admission.specs.Judging.{lies_in};
 
 use schema_types::{InstanceType, NumberValidation, Types, is_among};

@@ -3,7 +3,8 @@ ghost use Rattle.std.specs.Prelude.{◌≡◌, ◌≤◌, IfOk, IsErrOf, chars, 
 ghost use Rattle.std.specs.List.{list_all};
 ghost use Rattle.run_io.specs.Bytes.{Rises};
 ghost use Rattle.schema_defs.specs.Layer.{format_of, if_given, has_any as has_any_in, text_format_agrees, texts_agree as texts_say};
-ghost use Rattle.schema_types.specs.View.{kept_view, numbers_view, object_view, properties_view, texts_view};
+ghost use Rattle.json_value.specs.View.{kept_view};
+ghost use Rattle.schema_types.specs.View.{numbers_view, object_view, properties_view, texts_view};
 ghost use Rattle.schema_admission.specs.Judging.{kind_agrees as kind_says, number_agrees as number_says, plain_part, text_length};
 
 use crate::plain::{all_of, is_listed, is_within, number_has_format, numbers_agree, types_agree};

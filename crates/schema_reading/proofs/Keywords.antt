@@ -8,7 +8,7 @@ use Rattle.serde_json.specs.View.{view, members_view}
 use Rattle.json_value.specs.View.{value_of, members_of}
 use Rattle.schema_defs.specs.Read.{reading}
 use Rattle.schema_defs.proofs.Unknown.{keywords_are_members}
-use Rattle.schema_faults.proofs.Names.{got}
+use Rattle.json_value.proofs.Lookups.{got}
 use Rattle.schema_reading.specs.Reading.{Entries, readings, looked_up, read_now}
 
 seen : (r : Option (Bor json.Value)) → option_map read_now r ≡ option_map reading (option_map (λ x. value_of (view x.now)) r)

@@ -5,10 +5,9 @@ use Rattle.std.specs.BTreeSet.{insert_key}
 use Rattle.std.specs.Ordering.{match_ordering}
 use Rattle.serde_json.specs.View.{view, items_view}
 use Rattle.serde_json.specs.declared.value.Value.{Value as Read}
-use Rattle.json_value.specs.View.{value_of, items_of}
+use Rattle.json_value.specs.View.{value_of, items_of, kept_view}
 use Rattle.json_value.specs.Value.{Value, list, item, values, is_whole}
 use Rattle.schema_defs.specs.Read.{◌⊛◌, kept_list, name_set, with_name}
-use Rattle.schema_types.specs.View.{kept_view}
 
 -- the item at an index, and the others
 pub items_at : (vs : List Read) (i : ℕ) (x : Read) → i < length vs → x ≡ get_or vs i x → items_of (items_view (drop i vs)) ≡ item (value_of (view x)) (items_of (items_view (drop (i + 1) vs)))

@@ -1,7 +1,8 @@
 -- The keywords of a schema that hold no schema, as they are read.
 use Rattle.std.specs.Prelude.{map, None, option_map, string_bytes}
 use Rattle.schema_defs.specs.Schema as defs
-use Rattle.schema_types.specs.View.{kept_view, types_view, numbers_view, texts_view}
+use Rattle.json_value.specs.View.{kept_view}
+use Rattle.schema_types.specs.View.{types_view, numbers_view, texts_view}
 use Rattle.schema_reading.specs.declared.part.Plain.{Plain}
 
 abbrev pub plain_view : Plain → defs.Plain

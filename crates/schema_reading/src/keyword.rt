@@ -3,9 +3,9 @@
 
 ghost use Rattle.std.specs.Prelude.{◌≡◌, ℤ, pos, IfOk, option_map, map, string_bytes};
 ghost use Rattle.serde_json.specs.View.{view, items_view, members_view, number_view};
-ghost use Rattle.json_value.specs.View.{value_of, items_of, members_of, number_value};
+ghost use Rattle.json_value.specs.View.{value_of, items_of, members_of, number_value, kept_view};
 ghost use Rattle.schema_defs.specs.Read.{by_value, keyword as word, flag_of, integer_of, kept, kept_list, multiple_of, size_of, text_of, type_named, type_of, types_in, types_of};
-ghost use Rattle.schema_types.specs.View.{kept_view, types_view};
+ghost use Rattle.schema_types.specs.View.{types_view};
 ghost use Rattle.schema_reading.specs.Reading.{looked_up, read_now};
 
 use json_value::is_whole;

@@ -2,9 +2,9 @@
 
 ghost use Rattle.std.specs.Prelude.{◌≡◌, ◌∷◌, [], IfOk, option_map, map, string_bytes, unwrap_or};
 ghost use Rattle.serde_json.specs.View.{view, items_view, members_view};
-ghost use Rattle.json_value.specs.View.{value_of, items_of};
+ghost use Rattle.json_value.specs.View.{value_of, items_of, kept_view};
 ghost use Rattle.schema_defs.specs.Read.{by_value, keyword as word, kept_list, names_of, name_set, pattern_of, texts_in, text_of, type_named, type_of, types_in, types_of};
-ghost use Rattle.schema_types.specs.View.{kept_view, types_view};
+ghost use Rattle.schema_types.specs.View.{types_view};
 ghost use Rattle.schema_reading.specs.Reading.{looked_up};
 
 use crate::keyword::member;

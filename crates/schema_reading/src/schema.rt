@@ -1,9 +1,9 @@
 //! A value as a schema, as a list of schemas and as schemas by name.
 
 ghost use Rattle.std.specs.Prelude.{◌≡◌, [], IfOk, option_map, option_and_then, map, string_bytes, unwrap_or};
-ghost use Rattle.serde_json.specs.View.{view, items_view};
+ghost use Rattle.serde_json.specs.View.{view, items_view, members_view};
 ghost use Rattle.json_value.specs.View.{value_of, items_of};
-ghost use Rattle.schema_defs.specs.Schema.{no_properties, object as object_of, schemas as schemas_of_list};
+ghost use Rattle.schema_defs.specs.Schema.{Schema as ASchema, no_properties, object as object_of, schemas as schemas_of_list};
 ghost use Rattle.schema_defs.specs.Read.{item_readings, keyword as word, lists_of, named_of, places_of, properties_of, reading, same_of, schema_of, schemas_of, unless_empty};
 ghost use Rattle.schema_types.specs.View.{array_view, items_view as places_view, lists_of as lists_in, members_view as named_view, named_of as named_in, object_view, properties_view, same_of as same_in, schema_view, schemas_view, subschemas_view};
 ghost use Rattle.schema_reading.specs.Reading.{looked_up, readings};

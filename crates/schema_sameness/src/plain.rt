@@ -3,7 +3,8 @@ ghost use Rattle.std.specs.Prelude.{◌≡◌, map, option_map, string_bytes, by
 ghost use Rattle.std.specs.Cmp.Lexicographic.{pointwise};
 ghost use Rattle.json_value.specs.Value.{same as same_value, same_bool};
 ghost use Rattle.enum_defs.specs.Words.{same_type};
-ghost use Rattle.schema_types.specs.View.{kept_view, types_view, numbers_view, texts_view, object_view, array_view};
+ghost use Rattle.json_value.specs.View.{kept_view};
+ghost use Rattle.schema_types.specs.View.{types_view, numbers_view, texts_view, object_view, array_view};
 ghost use Rattle.merge_defs.specs.Alike.{same_option, same_types as same_types_of, same_numbers as same_numbers_of, same_texts, same_constraints as same_constraints_of};
 ghost use Rattle.schema_sameness.specs.Parts.{plain_in};
 ghost use Rattle.schema_sameness.specs.Looks.{same_sizes as same_sizes_of};

@@ -1,7 +1,7 @@
 -- The table of conversions as the reader of values sees it.
 use Rattle.std.specs.Prelude.{map, string_bytes}
 use Rattle.model_defs.specs.Model.{RuleD, text_rule, allow_rule, deny_rule, ConstraintD, ConversionsD}
-use Rattle.schema_types.specs.View.{kept_view}
+use Rattle.json_value.specs.View.{kept_view}
 use Rattle.schema_tree.specs.declared.conversions.Rule.{Rule}
 use Rattle.schema_tree.specs.declared.conversions.Rule.TheVariants.{Text, Allow, Deny}
 use Rattle.schema_tree.specs.declared.conversions.Constraint.{Constraint}

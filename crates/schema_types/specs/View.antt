@@ -2,10 +2,7 @@
 use Rattle.std.specs.Prelude.{List, map, Option, Some, None, option_map, String, string_bytes}
 use Rattle.std.specs.declared.alloc.Global.{Global}
 use Rattle.std.specs.declared.boxed.Box.{Box}
-use Rattle.serde_json.specs.declared.value.Value as json
-use Rattle.serde_json.specs.View as data'
-use Rattle.json_value.specs.Value.{Value}
-use Rattle.json_value.specs.View.{value_of}
+use Rattle.json_value.specs.View.{kept_view}
 use Rattle.schema_defs.specs.Schema as defs
 use Rattle.schema_defs.specs.Schema.{one_type, many_types, Numbers, Texts, Schema, boolean, object, Same, no_same, same_value, Lists, no_lists, lists, Named, no_named, named, MaybeSchema, no_schema, the_schema, MaybeSchemas, no_list, the_list, Places, no_items, each_item, by_place, Properties}
 use Rattle.schema_types.specs.declared.schema.Types.{Types}
@@ -22,9 +19,6 @@ use Rattle.schema_types.specs.declared.schema.SchemaObject.{SchemaObject, fold-S
 use Rattle.schema_types.specs.declared.schema.Subschemas.{Subschemas, fold-Subschemas}
 
 -- ---- what holds no schema
-
-abbrev pub kept_view : json.Value → Value
-kept_view v = value_of (data'.view v)
 
 abbrev pub types_view : Types → defs.Types
 types_view (One k) = one_type k

@@ -1,6 +1,7 @@
 //! Copies of schemas.
 ghost use Rattle.std.specs.Prelude.{◌≡◌, IfOk, option_map, map, string_bytes};
-ghost use Rattle.schema_types.specs.View.{kept_view, types_view, texts_view, schema_view, object_view, subschemas_view, items_view, array_view, members_view, schemas_view, properties_view, maybe_view};
+ghost use Rattle.json_value.specs.View.{kept_view};
+ghost use Rattle.schema_types.specs.View.{types_view, texts_view, schema_view, object_view, subschemas_view, items_view, array_view, members_view, schemas_view, properties_view, maybe_view};
 
 use crate::location::Walk;
 use crate::schema::{

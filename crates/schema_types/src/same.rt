@@ -4,7 +4,8 @@ ghost use Rattle.std.specs.Cmp.Lexicographic.{pointwise};
 ghost use Rattle.json_value.specs.Value.{same as same_value, same_bool};
 ghost use Rattle.schema_defs.specs.Schema.{schemas};
 ghost use Rattle.schema_defs.specs.Mapped.{mapped, unwalked};
-ghost use Rattle.schema_types.specs.View.{kept_view, types_view, numbers_view, texts_view, schema_view, object_view, subschemas_view, items_view, array_view, members_view, schemas_view, properties_view, maybe_view, same_of, lists_of, named_of, places_of};
+ghost use Rattle.json_value.specs.View.{kept_view};
+ghost use Rattle.schema_types.specs.View.{types_view, numbers_view, texts_view, schema_view, object_view, subschemas_view, items_view, array_view, members_view, schemas_view, properties_view, maybe_view, same_of, lists_of, named_of, places_of};
 ghost use Rattle.schema_types.specs.Same.{same_option, same_kind, same_types, same_numbers, same_texts, same_text, same_number, same_keywords, same_sizes, same_schemas, same_sames, same_lists, same_named, same_maybe, same_all, same_places, same_properties};
 
 use crate::schema::{

@@ -3,7 +3,8 @@ ghost use Rattle.std.specs.Prelude.{◌≡◌, map, option_map};
 ghost use Rattle.std.specs.List.{list_any};
 ghost use Rattle.schema_defs.specs.Layer.{if_given, is_kind as has_kind, types_agree, is_listed};
 ghost use Rattle.json_value.specs.Value.{same as same_value};
-ghost use Rattle.schema_types.specs.View.{kept_view, types_view, schema_view};
+ghost use Rattle.json_value.specs.View.{kept_view};
+ghost use Rattle.schema_types.specs.View.{types_view, schema_view};
 ghost use Rattle.schema_types.specs.Shallow.{shallow_agrees};
 
 use crate::schema::{Schema, Types};

@@ -6,10 +6,9 @@ use Rattle.serde_json.specs.declared.value.Value as json
 use Rattle.serde_json.specs.Data as data'
 use Rattle.serde_json.specs.Data.{Data, unsigned, negative, float}
 use Rattle.serde_json.specs.Find.{as_null}
-use Rattle.json_value.specs.View.{value_of}
+use Rattle.json_value.specs.View.{value_of, kept_view}
 use Rattle.json_value.specs.Value.{Value}
 use Rattle.model_defs.specs.Layer.{is_null}
-use Rattle.schema_types.specs.View.{kept_view}
 use Rattle.convert_defs.specs.Scalars.{non_null}
 use Rattle.row_findings.specs.declared.given.GivenValues.{GivenValues}
 use Rattle.row_findings.specs.Given.{given_values_view}

@@ -1,6 +1,7 @@
 //! What trees borrow from a document, copied for entries.
 ghost use Rattle.std.specs.Prelude.{◌≡◌, [], ◌∷◌, ◌++◌, IfOk, OnOk, map, option_map, string_bytes};
-ghost use Rattle.schema_types.specs.View.{kept_view, properties_view};
+ghost use Rattle.json_value.specs.View.{kept_view};
+ghost use Rattle.schema_types.specs.View.{properties_view};
 ghost use Rattle.schema_tree.specs.Conversions.{rule_view as rule_seen};
 ghost use Rattle.model_defs.specs.Layer.{is_null};
 ghost use Rattle.naming_defs.specs.Names.{name_by};

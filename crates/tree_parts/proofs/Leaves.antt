@@ -11,7 +11,7 @@ use Rattle.json_value.specs.Value.{Value, null, boolean, number, fraction, text,
 use Rattle.schema_defs.specs.Texts.{Relations}
 use Rattle.schema_defs.specs.Schema.{Texts}
 use Rattle.schema_defs.specs.Layer.{if_given, texts_agree}
-use Rattle.schema_types.specs.View.{kept_view}
+use Rattle.json_value.specs.View.{kept_view}
 use Rattle.model_defs.specs.Layer.{is_null}
 use Rattle.model_defs.specs.Model.{external_tag}
 use Rattle.entry_defs.specs.Entry.{Entry, item, option_entry, unit_entry, enum_shape, Variants, no_variants, variant_then, unit_contents}

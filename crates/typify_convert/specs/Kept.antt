@@ -2,7 +2,7 @@
 use Rattle.std.specs.Prelude.{◌≡◌, ℕ, List, [], Option, Some, None}
 use Rattle.schema_defs.specs.Texts.{Relations}
 use Rattle.schema_defs.specs.Schema.{Document}
-use Rattle.schema_types.specs.View.{kept_view as value_kept}
+use Rattle.json_value.specs.View.{kept_view as value_kept}
 use Rattle.entry_defs.specs.Table.{Table}
 use Rattle.convert_walks.specs.Tree.{Node}
 use Rattle.convert_walks.specs.Told.{Note, notes_in}

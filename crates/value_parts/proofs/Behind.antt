@@ -5,7 +5,7 @@ use Rattle.std.specs.declared.vec.Vec.{Vec}
 use Rattle.std.proofs.lemmas.List.{length-map}
 use Rattle.std.specs.Slice.{IsItemAt}
 use Rattle.serde_json.specs.declared.value.Value as json
-use Rattle.schema_types.specs.View.{kept_view}
+use Rattle.json_value.specs.View.{kept_view}
 use Rattle.model_defs.specs.Model.{FieldModel, VariantModel}
 use Rattle.value_models.specs.declared.value_type.ValueType.{ValueType}
 use Rattle.value_models.specs.declared.field.Field.{Field}

@@ -4,8 +4,7 @@ use Rattle.std.specs.declared.alloc.Global.{Global}
 use Rattle.serde_json.specs.declared.value.Value as json
 use Rattle.serde_json.specs.View.{members_view}
 use Rattle.json_value.specs.Value.{Value, entries}
-use Rattle.json_value.specs.View.{members_of}
-use Rattle.schema_types.specs.View.{kept_view}
+use Rattle.json_value.specs.View.{members_of, kept_view}
 use Rattle.model_defs.specs.Model.{VariantModel}
 use Rattle.value_parts.specs.declared.members.Member.{Member}
 use Rattle.value_parts.specs.At.{Entry}

@@ -3,7 +3,7 @@ use Rattle.std.specs.Prelude.{ℕ, List, [], ◌∷◌, map, Option, Some, None}
 use Rattle.json_value.specs.Value.{Value}
 use Rattle.model_defs.specs.Types.{TypeModel}
 use Rattle.model_defs.specs.Model.{VariantModel, FieldModel}
-use Rattle.schema_types.specs.View.{kept_view}
+use Rattle.json_value.specs.View.{kept_view}
 use Rattle.value_models.specs.TypeView.{type_view, types_view}
 use Rattle.value_models.specs.FieldView.{fields_view}
 use Rattle.value_models.specs.VariantView.{variant_view, variants_view, fields_in}

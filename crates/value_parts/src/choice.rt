@@ -1,6 +1,6 @@
 //! Which variant a value is read as, before its contents are.
 ghost use Rattle.std.specs.Prelude.{◌≡◌, [], IfErr, IfOk, option_map};
-ghost use Rattle.schema_types.specs.View.{kept_view};
+ghost use Rattle.json_value.specs.View.{kept_view};
 ghost use Rattle.value_models.specs.ContainerView.{tag_view, variants_in};
 ghost use Rattle.value_models.specs.VariantView.{variant_view};
 ghost use Rattle.value_parts.specs.Choice.{adjacent_choice, adjacent_found as adjacent_found_in, bare_choice, choice as choice_in, closed_choice, content_choice, contents_choice, entries_in, entry_of, external_choice, internal_choice, internal_found as internal_found_in, one_choice, style_choice, unit_choice};

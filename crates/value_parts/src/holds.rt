@@ -5,7 +5,7 @@ ghost use Rattle.run_io.specs.Bytes.{Rises};
 ghost use Rattle.model_defs.specs.Model.{rule_of as rule_of_in};
 ghost use Rattle.model_defs.specs.Layer.{given_rule_agrees};
 ghost use Rattle.schema_tree.specs.Conversions.{constraint_view, conversions_view, rule_view};
-ghost use Rattle.schema_types.specs.View.{kept_view};
+ghost use Rattle.json_value.specs.View.{kept_view};
 ghost use Rattle.value_models.specs.ContainerView.{container_view};
 
 use crate::rules::rule_agrees;

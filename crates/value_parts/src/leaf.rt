@@ -3,7 +3,7 @@ ghost use Rattle.std.specs.Prelude.{◌≡◌, ◌≤◌, ◌&&◌, IfErr, IfOk,
 ghost use Rattle.run_io.specs.Bytes.{Rises};
 ghost use Rattle.model_defs.specs.Layer.{is_null as is_null_value};
 ghost use Rattle.reading_defs.specs.Reading.{read_map};
-ghost use Rattle.schema_types.specs.View.{kept_view};
+ghost use Rattle.json_value.specs.View.{kept_view};
 ghost use Rattle.value_models.specs.TypeView.{type_view};
 ghost use Rattle.value_models.specs.TypedView.{typed_view};
 ghost use Rattle.value_parts.specs.Leaves.{is_optional as is_optional_in, leaf as leaf_in, scalar_read, wrapped as wrapped_in};

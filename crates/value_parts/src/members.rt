@@ -2,8 +2,7 @@
 ghost use Rattle.std.specs.Prelude.{◌≡◌, ◌++◌, ◌∷◌, [], IfErr, IfOk, option_map};
 ghost use Rattle.serde_json.specs.View.{members_view};
 ghost use Rattle.json_value.specs.Value.{entries, text};
-ghost use Rattle.json_value.specs.View.{members_of as members_in};
-ghost use Rattle.schema_types.specs.View.{kept_view};
+ghost use Rattle.json_value.specs.View.{members_of as members_in, kept_view};
 ghost use Rattle.value_parts.specs.Choice.{entries_without, entry_of};
 ghost use Rattle.value_parts.specs.Entries.{entries_view, entry_view};
 

@@ -3,7 +3,7 @@ ghost use Rattle.std.specs.Prelude.{◌≡◌, ◌≤◌, ◌&&◌, IfOk, IsErrO
 ghost use Rattle.std.specs.List.{list_all, list_any};
 ghost use Rattle.run_io.specs.Bytes.{Rises};
 ghost use Rattle.schema_defs.specs.Layer.{is_listed as is_listed_in, within};
-ghost use Rattle.schema_types.specs.View.{kept_view};
+ghost use Rattle.json_value.specs.View.{kept_view};
 ghost use Rattle.model_defs.specs.Layer.{has_one_of, rule_agrees as rule_says};
 ghost use Rattle.schema_tree.specs.Conversions.{rule_view};
 

@@ -3,7 +3,7 @@ ghost use Rattle.std.specs.Prelude.{◌≡◌, ◌∷◌, IfErr, IfOk, length, m
 ghost use Rattle.std.specs.List.{list_any};
 ghost use Rattle.model_defs.specs.Reads.{allowed as allowed_in};
 ghost use Rattle.schema_tree.specs.Conversions.{conversions_view};
-ghost use Rattle.schema_types.specs.View.{kept_view};
+ghost use Rattle.json_value.specs.View.{kept_view};
 ghost use Rattle.value_models.specs.ContainersView.{containers_in};
 
 use schema_tree::{Conversions, TextFault};

@@ -1,7 +1,7 @@
 //! Variants found by their names.
 ghost use Rattle.std.specs.Prelude.{◌≡◌, IfErr, IfOk, option_map, slice_get};
 ghost use Rattle.model_defs.specs.Layer.{is_unit as is_unit_variant};
-ghost use Rattle.schema_types.specs.View.{kept_view};
+ghost use Rattle.json_value.specs.View.{kept_view};
 ghost use Rattle.value_models.specs.VariantView.{variant_view, variants_view};
 ghost use Rattle.value_models.specs.ContainerView.{variants_in};
 ghost use Rattle.value_parts.specs.Choice.{tagged as tagged_in, variant_from};

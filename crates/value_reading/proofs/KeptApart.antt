@@ -6,7 +6,7 @@ use Rattle.json_value.specs.Value.{Value, same}
 use Rattle.typed_defs.specs.Typed.{Typed}
 use Rattle.reading_defs.specs.Reading.{keep_apart}
 use Rattle.serde_json.specs.declared.value.Value as json
-use Rattle.schema_types.specs.View.{kept_view}
+use Rattle.json_value.specs.View.{kept_view}
 use Rattle.value_models.specs.declared.typed.Typed.{Typed as Typed'}
 use Rattle.value_models.specs.TypedView.{typed_view, typeds_view}
 use Rattle.value_parts.proofs.Turns.{mapped_get, mapped_past, one_more, all_done}

@@ -7,13 +7,12 @@ use Rattle.serde_json.specs.declared.value.Value as json
 use Rattle.serde_json.specs.declared.value.Value.TheVariants as json'
 use Rattle.serde_json.specs.View.{items_view, members_view}
 use Rattle.json_value.specs.Value.{Value, list, object, values, entries}
-use Rattle.json_value.specs.View.{items_of, members_of}
+use Rattle.json_value.specs.View.{items_of, members_of, kept_view}
 use Rattle.model_defs.specs.Types.{TypeModel}
 use Rattle.model_defs.specs.Model.{FieldModel}
 use Rattle.model_defs.specs.Layer.{MemberPart}
 use Rattle.typed_defs.specs.Typed.{Typed}
 use Rattle.reading_defs.specs.Reading.{Read, Reader, stopped, absent, members_read}
-use Rattle.schema_types.specs.View.{kept_view}
 use Rattle.value_parts.specs.At.{Setting, Entry, Demand, default_of, demanded, demanded_from, fits, pairs_at, map_at, members_at, struct_at}
 use Rattle.value_reading.proofs.Sizes.{values_kept}
 use Rattle.value_reading.proofs.Small.{array_kept, object_kept}

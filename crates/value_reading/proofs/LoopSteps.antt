@@ -8,7 +8,7 @@ use Rattle.model_defs.specs.Types.{TypeModel}
 use Rattle.model_defs.specs.Model.{FieldModel, VariantModel}
 use Rattle.typed_defs.specs.Typed.{Typed}
 use Rattle.reading_defs.specs.Reading.{Read, taken, stopped, unsound, Reader, read_map, under, paired, here, followed, or_next, items_read, places_read, pair_read}
-use Rattle.schema_types.specs.View.{kept_view}
+use Rattle.json_value.specs.View.{kept_view}
 use Rattle.value_models.specs.declared.typed.Typed.{Typed as Typed'}
 use Rattle.value_models.specs.declared.variant.Variant.{Variant}
 use Rattle.value_models.specs.declared.field.Field.{Field}

@@ -2,9 +2,8 @@
 use Rattle.std.proofs.Common.{◌≡◌, ℕ, ◌+◌, ◌<◌, ◌≤◌, List, [], ◌∷◌, map, refl, sym, ap, ◌∙◌, arith}
 use Rattle.serde_json.specs.declared.value.Value as json
 use Rattle.json_value.specs.Value.{Value, Items, Members, no_items, item, no_members, member, value_size, items_size, members_size, values, entries}
-use Rattle.json_value.specs.View.{items_of}
+use Rattle.json_value.specs.View.{items_of, kept_view}
 use Rattle.serde_json.specs.View.{items_view}
-use Rattle.schema_types.specs.View.{kept_view}
 use Rattle.value_parts.specs.Slots.{entries_size}
 
 abbrev pub values_size : List Value → ℕ

@@ -15,11 +15,10 @@ use Rattle.serde_json.specs.View.{members_view, items_view}
 use Rattle.serde_json.proofs.Views.{view-Array, view-Object}
 use Rattle.json_value.specs.Value as value
 use Rattle.json_value.specs.Value.{Value, Items, Members, null, number, fraction, text, list, object, no_members, member, values, entries, value_size}
-use Rattle.json_value.specs.View.{value_of, items_of, members_of}
+use Rattle.json_value.specs.View.{value_of, items_of, members_of, kept_view}
 use Rattle.model_defs.specs.Model.{Style, struct_style, tuple_style, newtype_style, unit_style, FieldModel, VariantModel, TagModel, external_tag, internal_tag, adjacent_tag, untagged}
 use Rattle.model_defs.specs.Layer.{is_unit}
 use Rattle.reading_defs.specs.Reading.{stopped}
-use Rattle.schema_types.specs.View.{kept_view}
 use Rattle.value_parts.specs.declared.members.Member.{Member}
 use Rattle.value_parts.specs.At.{Entry}
 use Rattle.value_parts.specs.Choice.{Choice, settled, inside, beside, in_turn, variant_from, entry_of, entries_without, unit_choice, contents_choice, one_choice, external_choice, tagged, bare_choice, style_choice, internal_found, content_choice, closed_choice, adjacent_found, internal_choice, adjacent_choice, entries_in, choice}

@@ -5,7 +5,7 @@ ghost use Rattle.json_value.specs.Value.{same as same_in};
 ghost use Rattle.typed_defs.specs.Typed.{list as list_typed, typeds};
 ghost use Rattle.typed_defs.specs.Written.{written};
 ghost use Rattle.reading_defs.specs.Reading.{keep_apart as keep_apart_in, read_map};
-ghost use Rattle.schema_types.specs.View.{kept_view};
+ghost use Rattle.json_value.specs.View.{kept_view};
 ghost use Rattle.value_models.specs.ContainersView.{containers_in};
 ghost use Rattle.value_models.specs.TypeView.{type_view};
 ghost use Rattle.value_models.specs.TypedView.{typed_view, typeds_view};

@@ -4,7 +4,7 @@ ghost use Rattle.run_io.specs.Bytes.{Rises};
 ghost use Rattle.model_defs.specs.Layer.{variant_content};
 ghost use Rattle.reading_defs.specs.Reading.{reading};
 ghost use Rattle.schema_tree.specs.Conversions.{conversions_view};
-ghost use Rattle.schema_types.specs.View.{kept_view};
+ghost use Rattle.json_value.specs.View.{kept_view};
 ghost use Rattle.value_models.specs.ContainersView.{containers_in};
 ghost use Rattle.value_models.specs.ContainerView.{body_view, container_view, tag_view, variants_in};
 ghost use Rattle.value_models.specs.FieldView.{field_view, fields_view, helper_view};

@@ -22,8 +22,7 @@ use Rattle.serde_json.specs.declared.value.Value.TheVariants as json
 use Rattle.serde_json.proofs.Views.{view-Object}
 use Rattle.json_value.specs.Value as value
 use Rattle.json_value.specs.Value.{Value, Members, items}
-use Rattle.json_value.specs.View.{value_of}
-use Rattle.schema_types.specs.View.{kept_view}
+use Rattle.json_value.specs.View.{value_of, kept_view}
 use Rattle.typed_defs.specs.Written.{written, parts_of, rest_of, each_writes, places_write, map_writes}
 use Rattle.value_models.specs.declared.field.Field.{Field}
 use Rattle.value_models.specs.FieldView.{field_view}

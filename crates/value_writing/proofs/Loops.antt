@@ -6,7 +6,7 @@ use Rattle.std.proofs.lemmas.List.{drop_all, append-nil, map-append}
 use Rattle.serde_json.specs.declared.value.Value as value'
 use Rattle.serde_json.specs.declared.value.Value.TheVariants as values'
 use Rattle.serde_json.proofs.Views.{view-Array}
-use Rattle.json_value.specs.View.{value_of}
+use Rattle.json_value.specs.View.{value_of, kept_view}
 use Rattle.json_value.specs.Value as value
 use Rattle.json_value.specs.Value.{Value, Members, items}
 use Rattle.model_defs.specs.Types.{TypeModel}
@@ -23,7 +23,6 @@ use Rattle.value_models.specs.TypedView.{typed_view, typeds_view, pairs_view}
 use Rattle.value_models.specs.declared.variant.Variant.{Variant}
 use Rattle.value_models.specs.VariantView.{variant_view, variants_view}
 use Rattle.value_models.specs.FieldView.{field_view, fields_view}
-use Rattle.schema_types.specs.View.{kept_view}
 use Rattle.value_writing.specs.Seen.{kept_members}
 use Rattle.value_writing.specs.Pieces.{pairs_written, placed_written, unnamed_written, field_put, rest_put}
 use Rattle.value_writing.proofs.Parts.{kept_items}

@@ -5,7 +5,7 @@ use Rattle.serde_json.specs.View as json
 use Rattle.serde_json.specs.declared.value.Value as value'
 use Rattle.json_value.specs.Value as value
 use Rattle.json_value.specs.Value.{Value, Items, Members, items, no_items, item, no_members}
-use Rattle.json_value.specs.View.{items_of}
+use Rattle.json_value.specs.View.{items_of, kept_view}
 use Rattle.model_defs.specs.Types.{TypeModel, boolean_type, integer_type, text_type, native_type, any_type, unit_type, option_type, boxed_type, vec_type, set_type, map_type, tuple_type, array_type, item_type, outside_type}
 use Rattle.model_defs.specs.Model.{Style, struct_style, tuple_style, newtype_style, unit_style, FieldModel, BodyModel, struct_model, enum_model, ContainerModel, container_named}
 use Rattle.model_defs.specs.Settled.{put_all, text_of}
@@ -14,7 +14,6 @@ use Rattle.typed_defs.specs.Typed.{Typed, Typeds, typeds, pairs, typeds_of}
 use Rattle.typed_defs.specs.Written.{Parts, Writer, FieldPart, written, writes, each_of, pairs_in, fields_of, rest_of, parts_of, type_writes, pairs_write, by_places, field_types, whole, nothing, one, several, by_key, fields, chosen, inner, struct_writes, body_writes, item_writes, each_writes, map_writes, places_write, content_writes, first_writes}
 use Rattle.value_models.specs.declared.typed.Typed.{Typed as Typed'}
 use Rattle.value_models.specs.TypedView.{typed_view, typeds_view}
-use Rattle.schema_types.specs.View.{kept_view}
 use Rattle.value_writing.specs.Shape.{WrittenShape, shape, struct_shape, body_shape, item_shape, newtype_writes, shape_writes}
 use Rattle.value_writing.specs.Pieces.{pairs_written, placed_written, unnamed_written, part_of}
 

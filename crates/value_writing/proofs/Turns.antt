@@ -12,7 +12,7 @@ use Rattle.std.proofs.lemmas.Slice.Eq.{bytes_eq-Decides}
 use Rattle.serde_json.specs.declared.value.Value as value'
 use Rattle.json_value.specs.Value.{Value, Members, member}
 use Rattle.model_defs.specs.Settled.{put, placed}
-use Rattle.schema_types.specs.View.{kept_view}
+use Rattle.json_value.specs.View.{kept_view}
 use Rattle.value_writing.specs.Seen.{kept_members}
 
 agree : (k l : List ℕ) → slice_cmp nat_cmp k l ≡ Equal → k ≡ l

@@ -3,7 +3,7 @@ ghost use Rattle.std.specs.Prelude.{◌≡◌, IfOk};
 ghost use Rattle.value_models.specs.TypedView.{typed_view};
 ghost use Rattle.typed_defs.specs.Written.{json_number, parts_of, scalar_writes};
 ghost use Rattle.value_models.specs.ContainersView.{containers_in};
-ghost use Rattle.schema_types.specs.View.{kept_view};
+ghost use Rattle.json_value.specs.View.{kept_view};
 
 use serde_json::{Number, Value};
 use std::alloc::AllocError;

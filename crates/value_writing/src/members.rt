@@ -2,7 +2,7 @@
 ghost use Rattle.std.specs.Prelude.{◌≡◌, [], IfOk, OnOk, string_bytes};
 ghost use Rattle.json_value.specs.Value.{text};
 ghost use Rattle.model_defs.specs.Settled.{put, text_of};
-ghost use Rattle.schema_types.specs.View.{kept_view};
+ghost use Rattle.json_value.specs.View.{kept_view};
 ghost use Rattle.value_writing.specs.Seen.{kept_members};
 
 use serde_json::Value;

@@ -3,7 +3,7 @@ ghost use Rattle.std.specs.Prelude.{◌≡◌, IfOk, string_bytes};
 ghost use Rattle.typed_defs.specs.Written.{beside_content as beside_content_in, beside_tag as beside_tag_in, by_name as by_name_in, wrapped as wrapped_in};
 ghost use Rattle.value_models.specs.VariantView.{variant_view};
 ghost use Rattle.value_models.specs.ContainerView.{tag_view};
-ghost use Rattle.schema_types.specs.View.{kept_view};
+ghost use Rattle.json_value.specs.View.{kept_view};
 
 use crate::fields::is_unit;
 use crate::members::{name_value, put_member};

@@ -12,7 +12,7 @@ ghost use Rattle.value_models.specs.FieldView.{field_view, fields_view};
 ghost use Rattle.value_models.specs.VariantView.{variant_view, variants_view};
 ghost use Rattle.value_models.specs.ContainerView.{tag_view};
 ghost use Rattle.value_models.specs.ContainersView.{containers_in};
-ghost use Rattle.schema_types.specs.View.{kept_view};
+ghost use Rattle.json_value.specs.View.{kept_view};
 ghost use Rattle.value_writing.specs.Seen.{kept_members};
 ghost use Rattle.value_writing.specs.Pieces.{pairs_written, placed_written, unnamed_written, field_put, rest_put};
 

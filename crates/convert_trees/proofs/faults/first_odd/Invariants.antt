@@ -1,5 +1,5 @@
 use Rattle.std.proofs.Common.{◌≡◌, drop, map}
-use Rattle.schema_types.specs.View.{kept_view}
+use Rattle.json_value.specs.View.{kept_view}
 use Rattle.convert_trees.specs.Told.{first_odd}
 use Rattle.convert_trees.proofs.faults.first_odd.Given as goal
 

@@ -1,7 +1,7 @@
 use Rattle.std.specs.Prelude.{filter, not, option_map}
 use Rattle.std.proofs.Common.{sym, ap, ◌∙◌}
 use Rattle.schema_defs.specs.Texts.{Relations}
-use Rattle.schema_types.specs.View.{kept_view as value_kept}
+use Rattle.json_value.specs.View.{kept_view as value_kept}
 use Rattle.convert_defs.specs.Owners.{default_of}
 use Rattle.row_findings.specs.Given.{source_view}
 use Rattle.row_findings.specs.View.{row_view}

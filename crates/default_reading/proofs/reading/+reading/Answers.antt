@@ -1,8 +1,7 @@
 use Rattle.std.proofs.Common.{ℕ, ◌≡◌, ◌-◌, ◌<◌, ◌+◌, length, drop, not, option_map, string_bytes, sym, ap, ◌∙◌, refl, arith, rules, Some, None, subst}
 use Rattle.serde_json.specs.View.{items_view, members_view}
 use Rattle.json_value.specs.Value.{value_size, items_size, members_size, text}
-use Rattle.json_value.specs.View.{items_of, members_of}
-use Rattle.schema_types.specs.View.{kept_view}
+use Rattle.json_value.specs.View.{items_of, members_of, kept_view}
 use Rattle.entry_defs.specs.Entry.{any_entry, entries_of, enum_shape, fields_of, item, rest_of}
 use Rattle.entry_defs.specs.Layer.{contents_entry, rule_holds}
 use Rattle.row_findings.specs.View.{state_view, tag_view}

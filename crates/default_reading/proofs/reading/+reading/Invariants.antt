@@ -1,8 +1,7 @@
 use Rattle.std.proofs.Common.{◌≡◌, ◌≤◌, ◌+◌, ℕ, drop, length, option_map}
 use Rattle.serde_json.specs.View.{items_view, members_view}
 use Rattle.json_value.specs.Value.{value_size, items_size, members_size}
-use Rattle.json_value.specs.View.{items_of, members_of}
-use Rattle.schema_types.specs.View.{kept_view}
+use Rattle.json_value.specs.View.{items_of, members_of, kept_view}
 use Rattle.entry_defs.specs.Entry.{entries_of, fields_of, rest_of}
 use Rattle.row_findings.specs.View.{state_view}
 use Rattle.tree_types.specs.View.{table_view, tree_view}

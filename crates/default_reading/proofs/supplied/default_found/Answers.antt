@@ -1,6 +1,6 @@
 use Rattle.std.proofs.Common.{◌≡◌, ap, subst}
 use Rattle.schema_defs.specs.Texts.{Relations}
-use Rattle.schema_types.specs.View.{kept_view}
+use Rattle.json_value.specs.View.{kept_view}
 use Rattle.tree_types.specs.View.{table_view, tree_view}
 use Rattle.default_defs.specs.Supplied.{supplied}
 use Rattle.default_reading.specs.Seen.{found_view}

@@ -1,5 +1,5 @@
 use Rattle.std.proofs.Common.{◌≡◌, ◌+◌, ◌∙◌}
-use Rattle.schema_types.specs.View.{kept_view}
+use Rattle.json_value.specs.View.{kept_view}
 use Rattle.tree_types.specs.View.{table_view, tree_view}
 use Rattle.default_defs.specs.Supplied.{stated_in, stated_in_targets}
 use Rattle.default_reading.proofs.Levels.{supplied_known}

@@ -1,7 +1,7 @@
 use Rattle.std.proofs.Common.{◌≡◌, map, drop}
 use Rattle.std.specs.List.{list_all}
 use Rattle.reading_defs.specs.Proper.{has_json_numbers}
-use Rattle.schema_types.specs.View.{kept_view}
+use Rattle.json_value.specs.View.{kept_view}
 use Rattle.derive_model.proofs.sound.have_json_numbers.Given as goal
 
 abbrev pub invariant-loop-value : goal.invariant-loop-value

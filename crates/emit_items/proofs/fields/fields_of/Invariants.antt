@@ -1,6 +1,6 @@
 use Rattle.std.proofs.Common.{◌≡◌, ◌++◌, drop, map, length}
 use Rattle.syntax_trees.specs.Item.{field_view as tree_view}
-use Rattle.schema_types.specs.View.{kept_view}
+use Rattle.json_value.specs.View.{kept_view}
 use Rattle.entry_types.specs.View.{field_view}
 use Rattle.space_defs.specs.Trees.{field_trees_at, field_defaults_at}
 use Rattle.emit_types.specs.Asked.{space_view, same_part, leads_by}

@@ -1,6 +1,6 @@
 use Rattle.std.proofs.Common.{map}
 use Rattle.syntax_trees.specs.Item.{item_view}
-use Rattle.schema_types.specs.View.{kept_view}
+use Rattle.json_value.specs.View.{kept_view}
 use Rattle.emit_types.specs.Asked.{space_view, same_part, leads_by}
 use Rattle.emit_space.proofs.Placed.{trees_turn, defaults_turn}
 use Rattle.emit_space.proofs.emitting.items_of.Goals as goal

@@ -1,6 +1,6 @@
 use Rattle.std.proofs.Common.{◌≡◌, ◌++◌, drop, map, flat_map, length}
 use Rattle.syntax_trees.specs.Item.{item_view}
-use Rattle.schema_types.specs.View.{kept_view}
+use Rattle.json_value.specs.View.{kept_view}
 use Rattle.space_defs.specs.Items.{items_from, items_at}
 use Rattle.space_defs.specs.Trees.{item_trees_at, shape_defaults_at}
 use Rattle.emit_types.specs.Asked.{space_view, same_part, leads_by}

@@ -1,5 +1,5 @@
 use Rattle.std.proofs.Common.{◌≡◌, length, map}
-use Rattle.schema_types.specs.View.{kept_view}
+use Rattle.json_value.specs.View.{kept_view}
 use Rattle.enum_defs.specs.Kinds.{join, union, kind_of_value}
 use Rattle.enum_kinds.proofs.set.kinds_of_values.Given as goal
 

@@ -1,5 +1,5 @@
 use Rattle.std.proofs.Common.{◌≡◌, map, length}
-use Rattle.schema_types.specs.View.{kept_view}
+use Rattle.json_value.specs.View.{kept_view}
 use Rattle.enum_defs.specs.Words.{all_some}
 use Rattle.enum_shapes.specs.Here.{text_case_in}
 use Rattle.enum_shapes.specs.View.{case_view}

@@ -1,6 +1,6 @@
 use Rattle.std.proofs.Common.{◌≡◌, map, length}
 use Rattle.std.specs.List.{list_all}
-use Rattle.schema_types.specs.View.{kept_view}
+use Rattle.json_value.specs.View.{kept_view}
 use Rattle.enum_defs.specs.Words.{is_null}
 use Rattle.enum_shapes.proofs.keyword.are_null.Given as goal
 

@@ -1,5 +1,5 @@
 use Rattle.std.proofs.Common.{◌≡◌, ◌≤◌, drop, map}
-use Rattle.schema_types.specs.View.{kept_view}
+use Rattle.json_value.specs.View.{kept_view}
 use Rattle.tree_types.specs.View.{table_view, tree_view}
 use Rattle.listed_reading.specs.Unread.{first_of, standing_unread}
 use Rattle.listed_reading.proofs.listed.first_among.Given as goal

@@ -1,5 +1,5 @@
 use Rattle.std.proofs.Common.{◌≡◌, drop, map}
-use Rattle.schema_types.specs.View.{kept_view}
+use Rattle.json_value.specs.View.{kept_view}
 use Rattle.listed_reading.specs.Unread.{first_of, standing}
 use Rattle.listed_reading.proofs.listed.first_standing.Given as goal
 

@@ -1,5 +1,5 @@
 use Rattle.std.proofs.Common.{option_map}
-use Rattle.schema_types.specs.View.{kept_view}
+use Rattle.json_value.specs.View.{kept_view}
 use Rattle.tree_types.specs.View.{table_view, tree_view}
 use Rattle.listed_reading.proofs.Given.{unread_given}
 use Rattle.listed_reading.proofs.listed.first_unread.Goals as goal

@@ -1,5 +1,5 @@
 use Rattle.std.proofs.Common.{rules}
-use Rattle.schema_types.specs.View.{kept_view}
+use Rattle.json_value.specs.View.{kept_view}
 use Rattle.tree_types.specs.View.{tree_view}
 use Rattle.listed_reading.proofs.Fuel.{takes_known}
 use Rattle.listed_reading.proofs.listed.tree_takes.Goals as goal

@@ -1,5 +1,5 @@
 use Rattle.std.proofs.Common.{◌≡◌, ◌+◌, ◌-◌, ap, ◌∙◌, arith, rules}
-use Rattle.schema_types.specs.View.{kept_view}
+use Rattle.json_value.specs.View.{kept_view}
 use Rattle.entry_defs.specs.Layer.{contents_entry}
 use Rattle.tree_types.specs.View.{contents_view, parts_of, table_view, target_view, tree_view}
 use Rattle.tree_types.proofs.Sizes.{tree_size, part_size, parts_size, cases_size, case_in_cases, front_in_parts, one_falls, tree_in_part, variants_fall}

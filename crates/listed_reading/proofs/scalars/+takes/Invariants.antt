@@ -1,5 +1,5 @@
 use Rattle.std.proofs.Common.{◌≡◌, ◌≤◌, ◌+◌, ℕ, Bool, drop}
-use Rattle.schema_types.specs.View.{kept_view}
+use Rattle.json_value.specs.View.{kept_view}
 use Rattle.model_defs.specs.Model.{TagModel}
 use Rattle.tree_types.specs.View.{table_view}
 use Rattle.tree_types.proofs.Sizes.{tree_size, part_size, parts_size, cases_size}

@@ -1,5 +1,5 @@
 use Rattle.std.proofs.Common.{rules}
-use Rattle.schema_types.specs.View.{kept_view}
+use Rattle.json_value.specs.View.{kept_view}
 use Rattle.model_defs.specs.Model.{external_tag}
 use Rattle.tree_types.specs.View.{cases_of, variants_view}
 use Rattle.listed_reading.proofs.Tagged.{external_named}

@@ -1,6 +1,6 @@
 use Rattle.std.proofs.Common.{◌≡◌, ◌++◌, map, drop, not}
 use Rattle.std.specs.Prelude.{filter}
-use Rattle.schema_types.specs.View.{kept_view}
+use Rattle.json_value.specs.View.{kept_view}
 use Rattle.model_defs.specs.Layer.{is_null}
 use Rattle.merged_rows.proofs.owning.non_null.Given as goal
 

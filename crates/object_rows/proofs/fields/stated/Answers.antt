@@ -1,5 +1,5 @@
 use Rattle.std.proofs.Common.{◌≡◌}
-use Rattle.schema_types.specs.View.{kept_view}
+use Rattle.json_value.specs.View.{kept_view}
 use Rattle.row_findings.proofs.Seen.{seen}
 use Rattle.object_rows.proofs.fields.stated.Goals as goal
 

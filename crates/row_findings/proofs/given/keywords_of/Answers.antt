@@ -2,7 +2,8 @@
 use Rattle.std.proofs.Common.{◌≡◌, sym, ◌∙◌}
 use Rattle.std.specs.Prelude.{option_map, string_bytes}
 use Rattle.schema_defs.specs.Schema.{object}
-use Rattle.schema_types.specs.View.{kept_view, numbers_view, texts_view, same_of, lists_of, named_of, subschemas_view, array_view, members_view}
+use Rattle.json_value.specs.View.{kept_view}
+use Rattle.schema_types.specs.View.{numbers_view, texts_view, same_of, lists_of, named_of, subschemas_view, array_view, members_view}
 use Rattle.schema_types.specs.declared.schema.SchemaObject.{out-SchemaObject}
 use Rattle.row_findings.proofs.Objects.{object_seen}
 use Rattle.row_findings.proofs.Seen.{seen}

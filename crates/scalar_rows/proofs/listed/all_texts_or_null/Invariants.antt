@@ -1,6 +1,6 @@
 use Rattle.std.proofs.Common.{◌≡◌, map, length}
 use Rattle.std.specs.List.{list_all}
-use Rattle.schema_types.specs.View.{kept_view}
+use Rattle.json_value.specs.View.{kept_view}
 use Rattle.scalar_rows.specs.Kinds.{is_text_or_null, passes}
 use Rattle.scalar_rows.proofs.listed.all_texts_or_null.Given as goal
 

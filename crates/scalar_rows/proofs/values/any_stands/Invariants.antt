@@ -1,6 +1,6 @@
 use Rattle.std.proofs.Common.{◌≡◌, map, length}
 use Rattle.std.specs.List.{list_any}
-use Rattle.schema_types.specs.View.{kept_view}
+use Rattle.json_value.specs.View.{kept_view}
 use Rattle.scalar_rows.specs.Kinds.{is_of_kind, stands}
 use Rattle.scalar_rows.proofs.values.any_stands.Given as goal
 

@@ -1,7 +1,7 @@
 use Rattle.std.proofs.Common.{◌≡◌, map, length}
 use Rattle.std.specs.List.{list_any}
 use Rattle.json_value.specs.Value.{same}
-use Rattle.schema_types.specs.View.{kept_view}
+use Rattle.json_value.specs.View.{kept_view}
 use Rattle.scalar_rows.specs.Kinds.{stands}
 use Rattle.scalar_rows.proofs.values.has_value.Given as goal
 

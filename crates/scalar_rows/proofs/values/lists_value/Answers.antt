@@ -1,6 +1,6 @@
 use Rattle.std.proofs.Common.{◌≡◌, sym, ◌∙◌}
 use Rattle.json_value.specs.Value.{same}
-use Rattle.schema_types.specs.View.{kept_view}
+use Rattle.json_value.specs.View.{kept_view}
 use Rattle.scalar_rows.proofs.Given.{any_given}
 use Rattle.scalar_rows.proofs.values.lists_value.Goals as goal
 

@@ -4,14 +4,14 @@ use Rattle.std.specs.Option.{option_copied}
 use Rattle.std.specs.List.{list_all, list_any}
 use Rattle.serde_json.specs.View.{items_view as items_seen, members_view as members_seen}
 use Rattle.json_value.specs.Value.{value_size, items_size, members_size, text as text_value}
-use Rattle.json_value.specs.View.{items_of, members_of}
+use Rattle.json_value.specs.View.{items_of, members_of, kept_view}
 use Rattle.schema_defs.specs.Schema.{schemas}
 use Rattle.schema_defs.specs.Layer.{property_at, parts_agree as parts_say, patterns_agree as patterns_say, contains_agrees as contains_says, items_agree as items_say, maybe, has_any}
 use Rattle.schema_defs.specs.Admits.{counts_as_absent, admits, admits_with, allowed, parts_of, item_judges, member_parts}
 use Rattle.schema_types.specs.declared.schema.Subschemas.{out-Subschemas}
 use Rattle.schema_types.specs.declared.schema.ArrayValidation.{out-ArrayValidation}
 use Rattle.schema_types.specs.declared.schema.ObjectValidation.{out-ObjectValidation}
-use Rattle.schema_types.specs.View.{kept_view, schema_view, object_view, maybe_view, maybe_list_view, same_of, subschemas_view, schemas_view, items_view, places_of, lists_of, array_view, named_of, members_view, properties_view}
+use Rattle.schema_types.specs.View.{schema_view, object_view, maybe_view, maybe_list_view, same_of, subschemas_view, schemas_view, items_view, places_of, lists_of, array_view, named_of, members_view, properties_view}
 use Rattle.schema_types.specs.DocumentView.{document_view}
 use Rattle.schema_admission.specs.declared.wanted.Wanted.TheVariants.{Any, One}
 use Rattle.schema_defs.specs.Counts.{schema_nodes, maybe_nodes, maybe_list_nodes, same_nodes, nodes as document_nodes, schemas_nodes, places_nodes, lists_nodes, named_nodes, properties_nodes}

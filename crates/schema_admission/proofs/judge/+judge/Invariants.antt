@@ -2,11 +2,11 @@ use Rattle.std.proofs.Common.{◌≡◌, ℕ, List, Bool, ◌≤◌, ◌+◌, dr
 use Rattle.std.specs.List.{list_all}
 use Rattle.serde_json.specs.View.{members_view as members_seen, items_view as items_seen}
 use Rattle.json_value.specs.Value.{value_size, items_size, members_size}
-use Rattle.json_value.specs.View.{items_of, members_of}
+use Rattle.json_value.specs.View.{items_of, members_of, kept_view}
 use Rattle.schema_defs.specs.Schema.{schemas}
 use Rattle.schema_defs.specs.Layer.{Judge, by_places as by_places_in, patterns_agree as patterns_say}
 use Rattle.schema_defs.specs.Admits.{admits as admits_in, item_judges, member_parts}
-use Rattle.schema_types.specs.View.{kept_view, schema_view, object_view, schemas_view, maybe_view, maybe_list_view, subschemas_view, same_of, members_view, properties_view}
+use Rattle.schema_types.specs.View.{schema_view, object_view, schemas_view, maybe_view, maybe_list_view, subschemas_view, same_of, members_view, properties_view}
 use Rattle.schema_types.specs.DocumentView.{document_view}
 use Rattle.schema_defs.specs.Counts.{schema_nodes, schemas_nodes, maybe_nodes, maybe_list_nodes, same_nodes, properties_nodes}
 use Rattle.schema_admission.specs.Judging.{admitted_count, admitting_count, named_member, places_from}

@@ -1,7 +1,7 @@
 use Rattle.std.proofs.Common.{◌≡◌, drop}
 use Rattle.std.specs.List.{list_any}
 use Rattle.schema_defs.specs.Layer.{is_kind}
-use Rattle.schema_types.specs.View.{kept_view}
+use Rattle.json_value.specs.View.{kept_view}
 use Rattle.schema_admission.proofs.plain.has_one_of.Given as goal
 
 abbrev pub invariant-loop-kind : goal.invariant-loop-kind

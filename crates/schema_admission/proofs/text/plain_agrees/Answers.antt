@@ -1,5 +1,5 @@
 use Rattle.std.proofs.Common.{◌&&◌, sym, ◌∙◌}
-use Rattle.schema_types.specs.View.{kept_view}
+use Rattle.json_value.specs.View.{kept_view}
 use Rattle.schema_admission.proofs.Views.{plain-out}
 use Rattle.schema_admission.proofs.text.plain_agrees.Goals as goal
 

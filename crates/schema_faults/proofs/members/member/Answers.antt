@@ -1,4 +1,4 @@
-use Rattle.schema_faults.proofs.Names.{got}
+use Rattle.json_value.proofs.Lookups.{got}
 use Rattle.schema_faults.proofs.members.member.Goals as goal
 
 pub returns : goal.returns

@@ -9,7 +9,7 @@ use Rattle.json_value.specs.View.{value_of, members_of}
 use Rattle.schema_faults.specs.Schemas.{held_members, nodes_of, object_nodes}
 use Rattle.schema_faults.specs.Faults.{Place}
 use Rattle.schema_faults.specs.Search.{first_among}
-use Rattle.schema_faults.proofs.Names.{got}
+use Rattle.json_value.proofs.Lookups.{got}
 use Rattle.schema_faults.proofs.Walk.{told_now, told_later, keyword_none, keyword_some, rows_some, rows_none, items_some, items_none, members_some, members_none}
 use Rattle.schema_faults.proofs.search.+search.Goals as goal
 

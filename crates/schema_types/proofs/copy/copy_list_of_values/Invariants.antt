@@ -1,5 +1,5 @@
 use Rattle.std.proofs.Common.{◌≡◌, take, map}
-use Rattle.schema_types.specs.View.{kept_view}
+use Rattle.json_value.specs.View.{kept_view}
 use Rattle.schema_types.proofs.copy.copy_list_of_values.Given as goal
 
 abbrev pub invariant-loop-value : goal.invariant-loop-value

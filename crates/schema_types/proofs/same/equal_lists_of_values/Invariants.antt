@@ -2,7 +2,7 @@ use Rattle.std.proofs.Common.{◌≡◌, drop, map}
 use Rattle.std.specs.Cmp.Lexicographic.{pointwise}
 use Rattle.json_value.specs.Value.{same as same_value}
 use Rattle.std.specs.Slice.Iter.{iter_rest}
-use Rattle.schema_types.specs.View.{kept_view}
+use Rattle.json_value.specs.View.{kept_view}
 use Rattle.schema_types.proofs.same.equal_lists_of_values.Given as goal
 
 abbrev pub invariant-loop-x : goal.invariant-loop-x

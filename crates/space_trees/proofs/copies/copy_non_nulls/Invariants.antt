@@ -1,5 +1,5 @@
 use Rattle.std.proofs.Common.{◌≡◌, ◌++◌, map, drop}
-use Rattle.schema_types.specs.View.{kept_view}
+use Rattle.json_value.specs.View.{kept_view}
 use Rattle.convert_defs.specs.Scalars.{non_null}
 use Rattle.space_trees.proofs.copies.copy_non_nulls.Given as goal
 

@@ -1,6 +1,7 @@
 use Rattle.std.proofs.Common.{rules, refl, ◌∙◌, map, option_map}
 use Rattle.std.specs.BTreeSet.{contains_text}
-use Rattle.schema_types.specs.View.{kept_view, texts_view}
+use Rattle.json_value.specs.View.{kept_view}
+use Rattle.schema_types.specs.View.{texts_view}
 use Rattle.tree_parts.proofs.Leaves.{kept_init, none_seen, value_turn, values_drop}
 use Rattle.tree_parts.proofs.leaf.kept_listed.Goals as goal
 

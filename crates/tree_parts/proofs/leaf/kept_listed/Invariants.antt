@@ -1,7 +1,8 @@
 use Rattle.std.proofs.Common.{◌≡◌, ◌≤◌, drop, map, option_map}
 use Rattle.std.specs.BTreeSet.{contains_text}
 use Rattle.schema_defs.specs.Layer.{if_given, texts_agree}
-use Rattle.schema_types.specs.View.{kept_view, texts_view}
+use Rattle.json_value.specs.View.{kept_view}
+use Rattle.schema_types.specs.View.{texts_view}
 use Rattle.model_defs.specs.Model.{external_tag}
 use Rattle.convert_defs.specs.Scalars.{kept_texts, texts_in, unit_variants}
 use Rattle.tree_types.specs.View.{variants_then, cases_of}

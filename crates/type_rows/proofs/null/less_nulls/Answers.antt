@@ -1,6 +1,6 @@
 use Rattle.std.proofs.Common.{◌≡◌, Bool, true, false, if◌then◌else◌, List, Some, option_map, map, refl, sym, ap, ◌∙◌}
 use Rattle.json_value.specs.Value.{Value}
-use Rattle.schema_types.specs.View.{kept_view}
+use Rattle.json_value.specs.View.{kept_view}
 use Rattle.convert_defs.specs.Scalars.{non_null}
 use Rattle.row_findings.specs.Given.{given_values_view}
 use Rattle.scalar_rows.proofs.Given.{non_null-again}

@@ -1,6 +1,6 @@
 use Rattle.std.proofs.Common.{◌≡◌, drop, map}
 use Rattle.schema_defs.specs.Layer.{is_listed}
-use Rattle.schema_types.specs.View.{kept_view}
+use Rattle.json_value.specs.View.{kept_view}
 use Rattle.value_parts.proofs.rules.is_listed.Given as goal
 
 abbrev pub invariant-loop-other : goal.invariant-loop-other

@@ -1,7 +1,7 @@
 use Rattle.std.proofs.Common.{◌≡◌, drop, map}
 use Rattle.std.specs.List.{list_any}
 use Rattle.json_value.specs.Value.{same}
-use Rattle.schema_types.specs.View.{kept_view}
+use Rattle.json_value.specs.View.{kept_view}
 use Rattle.value_reading.proofs.apart.is_seen.Given as goal
 
 abbrev pub invariant-loop-other : goal.invariant-loop-other

@@ -1,6 +1,6 @@
 use Rattle.std.proofs.Common.{◌++◌, map, ◌∙◌}
 use Rattle.typed_defs.specs.Written.{written}
-use Rattle.schema_types.specs.View.{kept_view}
+use Rattle.json_value.specs.View.{kept_view}
 use Rattle.value_models.specs.ContainersView.{containers_in}
 use Rattle.value_models.specs.TypeView.{type_view}
 use Rattle.value_models.specs.TypedView.{typeds_view}

@@ -2,7 +2,7 @@ use Rattle.std.proofs.Common.{◌≡◌, ◌++◌, [], map}
 use Rattle.std.specs.Vec.Iter.{into_iter_items}
 use Rattle.typed_defs.specs.Written.{written}
 use Rattle.reading_defs.specs.Reading.{keep_apart}
-use Rattle.schema_types.specs.View.{kept_view}
+use Rattle.json_value.specs.View.{kept_view}
 use Rattle.value_models.specs.ContainersView.{containers_in}
 use Rattle.value_models.specs.TypeView.{type_view}
 use Rattle.value_models.specs.TypedView.{typeds_view}

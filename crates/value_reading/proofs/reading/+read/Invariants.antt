@@ -1,6 +1,6 @@
 use Rattle.std.proofs.Common.{◌≡◌, ◌≤◌, ◌+◌, map, drop}
 use Rattle.json_value.specs.Value.{value_size}
-use Rattle.schema_types.specs.View.{kept_view}
+use Rattle.json_value.specs.View.{kept_view}
 use Rattle.value_models.specs.FieldView.{fields_view}
 use Rattle.value_models.specs.TypeView.{type_view}
 use Rattle.value_models.specs.TypedView.{typeds_view, pairs_view}

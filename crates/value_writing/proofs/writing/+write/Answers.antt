@@ -6,7 +6,7 @@ use Rattle.value_models.specs.TypedView.{typed_view, typeds_view}
 use Rattle.value_models.specs.FieldView.{fields_view}
 use Rattle.typed_defs.specs.Typed.{typeds}
 use Rattle.typed_defs.specs.Written.{fields_of}
-use Rattle.schema_types.specs.View.{kept_view}
+use Rattle.json_value.specs.View.{kept_view}
 use Rattle.value_writing.specs.Seen.{kept_members}
 use Rattle.value_writing.proofs.Lists.{view-Null, each_is, places_are, pairs_put, rest_is}
 use Rattle.value_writing.proofs.Loops.{fields_end, rests_end, items_end, chosen_past}

@@ -6,7 +6,7 @@ use Rattle.value_models.specs.TypeView.{type_view, types_view}
 use Rattle.value_models.specs.TypedView.{typed_view, typeds_view, pairs_view}
 use Rattle.value_models.specs.FieldView.{fields_view}
 use Rattle.value_models.specs.ContainersView.{containers_in}
-use Rattle.schema_types.specs.View.{kept_view}
+use Rattle.json_value.specs.View.{kept_view}
 use Rattle.value_writing.specs.Seen.{kept_members}
 use Rattle.value_writing.specs.Pieces.{pairs_written, placed_written, unnamed_written}
 use Rattle.value_writing.proofs.writing.+write.Given as goal

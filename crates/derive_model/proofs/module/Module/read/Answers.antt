@@ -1,5 +1,5 @@
 use Rattle.model_defs.specs.Types.{type_of}
-use Rattle.schema_types.specs.View.{kept_view}
+use Rattle.json_value.specs.View.{kept_view}
 use Rattle.syntax_trees.specs.View.{ty as ty_view}
 use Rattle.value_models.specs.TypedView.{typed_view}
 use Rattle.derive_model.specs.ModuleView.{conversions_in, models_in}
