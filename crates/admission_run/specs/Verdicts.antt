@@ -1,7 +1,7 @@
 -- What is answered of an input's values: whether the document that the schema is admits each of them, or why none is answered.
 use Rattle.std.specs.Prelude.{◌≡◌, ◌⊎◌, ℕ, List, [], map, Bool, true}
 use Rattle.serde_json.specs.Data.{Data}
-use Rattle.run_io.specs.Bytes.{Rises}
+use Rattle.schema_defs.specs.Faults.{Rises}
 use Rattle.json_value.specs.Value.{Value}
 use Rattle.json_value.specs.View.{value_of}
 use Rattle.schema_defs.specs.declared.Setting.{Setting}

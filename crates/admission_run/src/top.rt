@@ -1,7 +1,8 @@
 //! The run of the program, over any source, sink and judge of texts.
 ghost use Rattle.std.specs.Prelude.{◌≡◌, ◌≤◌, ◌⊎◌, ℕ, List, [], map, length, Some, string_bytes};
 ghost use Rattle.serde_json.specs.View.{view};
-ghost use Rattle.run_io.specs.Bytes.{Appends, AppendsPrefix, Rises};
+ghost use Rattle.schema_defs.specs.Faults.{Rises};
+ghost use Rattle.run_io.specs.Bytes.{Appends, AppendsPrefix};
 ghost use Rattle.run_input.specs.Input.{Parts, IsInput, IsNoInput, data_of, limit};
 ghost use Rattle.schema_tree.specs.Fault.{fault_line, fault_view};
 ghost use Rattle.schema_defs.specs.declared.Setting.{Setting};

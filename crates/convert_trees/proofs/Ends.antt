@@ -1,7 +1,7 @@
 -- How a fault is told.
 use Rattle.std.specs.Prelude.{Result, Ok, Err, IfErr, IsErrAnd, Contains}
 use Rattle.std.proofs.Common.{◌≡◌, ℕ, ◌≤◌, inl, inr, List, [], ◌∷◌, refl, sym, subst, arith}
-use Rattle.run_io.specs.Bytes.{Rises}
+use Rattle.schema_defs.specs.Faults.{Rises}
 use Rattle.schema_defs.specs.Location.{Location}
 use Rattle.schema_defs.specs.Schema.{Schema}
 use Rattle.convert_defs.specs.Row.{Finding, Cause}

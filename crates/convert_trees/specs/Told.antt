@@ -1,6 +1,6 @@
 -- What conversion tells of nodes of a conversion tree: their notes, where none of them has a fault, or else the first fault.
 use Rattle.std.specs.Prelude.{◌≡◌, ℕ, List, [], ◌∷◌, ◌++◌, map, Contains, Bool, true, false, Option, Some, None, if◌then◌else◌}
-use Rattle.run_io.specs.Bytes.{Rises}
+use Rattle.schema_defs.specs.Faults.{Rises}
 use Rattle.json_value.specs.Value.{Value, null, text}
 use Rattle.schema_defs.specs.Location.{Location}
 use Rattle.schema_defs.specs.Texts.{Relations}

@@ -1,6 +1,6 @@
 //! Faults at their places.
 ghost use Rattle.std.specs.Prelude.{◌≡◌, ℕ, ◌⊎◌, [], ◌∷◌, map, option_map};
-ghost use Rattle.run_io.specs.Bytes.{Rises};
+ghost use Rattle.schema_defs.specs.Faults.{Rises};
 ghost use Rattle.json_value.specs.View.{kept_view};
 ghost use Rattle.schema_types.specs.View.{object_view, schema_view};
 ghost use Rattle.schema_tree.specs.Fault.{bad_value as bad_value_at, fault_view, memory, unsupported as unsupported_at};

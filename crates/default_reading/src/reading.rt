@@ -1,6 +1,6 @@
 //! Values and trees, where defaults are read for what is left out.
 ghost use Rattle.std.specs.Prelude.{◌≡◌, ◌≤◌, ◌+◌, ℕ, List, Option, Some, IfOk, IsErrOf, if◌then◌else◌, length, option_map, string_bytes};
-ghost use Rattle.run_io.specs.Bytes.{Rises};
+ghost use Rattle.schema_defs.specs.Faults.{Rises};
 ghost use Rattle.serde_json.specs.View.{items_view, members_view};
 ghost use Rattle.json_value.specs.Value.{text};
 ghost use Rattle.json_value.specs.View.{items_of, members_of, kept_view};

@@ -1,6 +1,6 @@
 //! What stated defaults come to.
 ghost use Rattle.std.specs.Prelude.{◌≡◌, ◌≤◌, IfOk, IsErrOf};
-ghost use Rattle.run_io.specs.Bytes.{Rises};
+ghost use Rattle.schema_defs.specs.Faults.{Rises};
 ghost use Rattle.json_value.specs.View.{kept_view};
 ghost use Rattle.tree_types.specs.View.{table_view, tree_view};
 ghost use Rattle.default_defs.specs.Supplied.{supplied};

@@ -1,7 +1,7 @@
 -- What a module says of values: typed values, the place where reading stops, and verdicts.
 use Rattle.std.specs.Prelude.{◌≡◌, ◌&&◌, ℕ, Bool, true, false, List}
 use Rattle.std.specs.List.{list_all}
-use Rattle.run_io.specs.Bytes.{Rises}
+use Rattle.schema_defs.specs.Faults.{Rises}
 use Rattle.serde_json.specs.Data.{Data}
 use Rattle.json_value.specs.Value.{Value}
 use Rattle.json_value.specs.View.{value_of}

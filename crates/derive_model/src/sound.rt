@@ -1,7 +1,7 @@
 //! Whether the stated defaults of a module are sound.
 ghost use Rattle.std.specs.Prelude.{◌≡◌, ◌≤◌, map, IfOk, IsErrOf};
 ghost use Rattle.std.specs.List.{list_all};
-ghost use Rattle.run_io.specs.Bytes.{Rises};
+ghost use Rattle.schema_defs.specs.Faults.{Rises};
 ghost use Rattle.reading_defs.specs.Laws.{body_is_sound as body_sound, defaults_are_sound as defaults_sound, fields_are_sound as fields_sound, is_sound as default_sound};
 ghost use Rattle.reading_defs.specs.Proper.{has_json_numbers as value_has};
 ghost use Rattle.json_value.specs.View.{kept_view};

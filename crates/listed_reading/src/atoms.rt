@@ -1,6 +1,6 @@
 //! Values and entries without parts.
 ghost use Rattle.std.specs.Prelude.{◌≡◌, ◌≤◌, IfOk, IfSome, IsErrOf};
-ghost use Rattle.run_io.specs.Bytes.{Rises};
+ghost use Rattle.schema_defs.specs.Faults.{Rises};
 ghost use Rattle.schema_defs.specs.Integers.{in_range};
 ghost use Rattle.json_value.specs.View.{kept_view};
 ghost use Rattle.model_defs.specs.Layer.{has_the_format, is_boolean as is_boolean_value, is_in_range, is_text as is_text_value};

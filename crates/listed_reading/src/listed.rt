@@ -1,6 +1,6 @@
 //! Values that rules list.
 ghost use Rattle.std.specs.Prelude.{◌≡◌, ◌≤◌, ◌&&◌, IfOk, IsErrOf, map, not, option_map};
-ghost use Rattle.run_io.specs.Bytes.{Rises};
+ghost use Rattle.schema_defs.specs.Faults.{Rises};
 ghost use Rattle.json_value.specs.View.{kept_view};
 ghost use Rattle.entry_defs.specs.Takes.{takes};
 ghost use Rattle.convert_defs.specs.Values.{listed_by};

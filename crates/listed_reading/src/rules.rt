@@ -1,7 +1,7 @@
 //! Values and rules.
 ghost use Rattle.std.specs.Prelude.{◌≡◌, ◌≤◌, IfOk, IsErrOf};
 ghost use Rattle.std.specs.List.{list_any};
-ghost use Rattle.run_io.specs.Bytes.{Rises};
+ghost use Rattle.schema_defs.specs.Faults.{Rises};
 ghost use Rattle.json_value.specs.View.{kept_view};
 ghost use Rattle.schema_types.specs.View.{properties_view, texts_view};
 ghost use Rattle.model_defs.specs.Layer.{has_one_of as has_one_of_in, rule_agrees};

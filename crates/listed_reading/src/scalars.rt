@@ -1,7 +1,7 @@
 //! Values and trees.
 ghost use Rattle.std.specs.Prelude.{◌≡◌, ◌≤◌, ◌∷◌, [], ℕ, Bool, IfOk, IsErrOf};
 ghost use Rattle.std.specs.List.{list_any};
-ghost use Rattle.run_io.specs.Bytes.{Rises};
+ghost use Rattle.schema_defs.specs.Faults.{Rises};
 ghost use Rattle.json_value.specs.View.{kept_view};
 ghost use Rattle.model_defs.specs.Model.{TagModel};
 ghost use Rattle.entry_defs.specs.Entry.{reference, variants_of};

@@ -1,6 +1,6 @@
 //! Values and what is made of one part.
 ghost use Rattle.std.specs.Prelude.{◌≡◌, ◌≤◌, IfOk, IsErrOf, option_map, unwrap_or};
-ghost use Rattle.run_io.specs.Bytes.{Rises};
+ghost use Rattle.schema_defs.specs.Faults.{Rises};
 ghost use Rattle.json_value.specs.View.{kept_view};
 ghost use Rattle.entry_defs.specs.Entry.{Entry};
 ghost use Rattle.entry_defs.specs.Layer.{rule_holds as rule_holds_in};

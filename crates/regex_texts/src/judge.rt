@@ -1,7 +1,7 @@
 //! The judge that searches with `regex`.
 ghost use Rattle.std.specs.Prelude.{◌≡◌, ◌≢◌, ℕ, ◌≤◌, List, Some, true, is_some, IfOk, OnOk, IsErrOf, option_copied};
 ghost use Rattle.std.specs.BTreeMap.{get_by_text};
-ghost use Rattle.run_io.specs.Bytes.{Rises};
+ghost use Rattle.schema_defs.specs.Faults.{Rises};
 ghost use Rattle.plain_patterns.specs.Plain.{is_plain};
 ghost use Rattle.regex_texts.specs.Search.{matches, regex_relations};
 ghost use Rattle.regex_texts.specs.Searchers.{Searches};

@@ -1,6 +1,6 @@
 //! The tree of a row.
 ghost use Rattle.std.specs.Prelude.{◌≡◌, ◌≤◌, ℕ, List, Some, IfOk, IsErrOf, map, option_map};
-ghost use Rattle.run_io.specs.Bytes.{Rises};
+ghost use Rattle.schema_defs.specs.Faults.{Rises};
 ghost use Rattle.schema_defs.specs.Texts.{Relations};
 ghost use Rattle.entry_defs.specs.Entry.{any_entry, item, struct_shape};
 ghost use Rattle.convert_defs.specs.Convert.{entry_of};

@@ -1,11 +1,7 @@
--- What a read and a write do to the bytes that a source and a sink tell of, and what it is for a count to rise. Nothing
--- is said of the bytes of one that doesn't tell, but that it doesn't tell later either.
-use Rattle.std.specs.Prelude.{◌≡◌, ℕ, ◌-◌, ◌^◌, ◌<◌, ◌⊎◌, List, [], ◌++◌, Option, IfSome}
+-- What a read and a write do to the bytes that a source and a sink tell of. Nothing is said of the bytes of one that
+-- doesn't tell, but that it doesn't tell later either.
+use Rattle.std.specs.Prelude.{◌≡◌, ℕ, List, [], ◌++◌, Option, IfSome}
 use Rattle.std.specs.Option.{option_map}
-
--- a count rose, or stands at the end of a count of 64 bits
-abbrev pub Rises : ℕ → ℕ → Type 0
-Rises old new = (old < new) ⊎ (new ≡ 2 ^ 64 - 1)
 
 -- p is a front of bs
 abbrev pub IsPrefix : List ℕ → List ℕ → Type 0

@@ -1,6 +1,7 @@
 //! What gives bytes and what takes them, by what a caller may rely on.
 ghost use Rattle.std.specs.Prelude.{◌≡◌, ℕ, ◌<◌, ◌≤◌, List, length, take, Option, IfOk, OnErr, IsErrOf};
-ghost use Rattle.run_io.specs.Bytes.{Appends, IsSpent, Rises, Takes};
+ghost use Rattle.schema_defs.specs.Faults.{Rises};
+ghost use Rattle.run_io.specs.Bytes.{Appends, IsSpent, Takes};
 
 use crate::fault::{Failed, SinkFault};
 

@@ -1,6 +1,7 @@
 //! The two loops over the outside: writing all of some bytes, and reading an input to its end.
 ghost use Rattle.std.specs.Prelude.{◌≡◌, ℕ, ◌<◌, ◌≤◌, List, [], length, Some, IfOk, OnOk, OnErr, IsErrOf, vec_len};
-ghost use Rattle.run_io.specs.Bytes.{Appends, AppendsPrefix, Rises};
+ghost use Rattle.schema_defs.specs.Faults.{Rises};
+ghost use Rattle.run_io.specs.Bytes.{Appends, AppendsPrefix};
 
 use crate::fault::{InputFault, SinkFault};
 use crate::outside::{Sink, Source};

@@ -1,7 +1,7 @@
 //! One value against one schema, and its parts against the schemas inside.
 ghost use Rattle.std.specs.Prelude.{◌≡◌, ◌≤◌, IfOk, IsErrOf, option_map, string_bytes};
 ghost use Rattle.std.specs.Option.{option_copied};
-ghost use Rattle.run_io.specs.Bytes.{Rises};
+ghost use Rattle.schema_defs.specs.Faults.{Rises};
 ghost use Rattle.serde_json.specs.View.{items_view as items_seen, members_view as members_seen};
 ghost use Rattle.json_value.specs.Value.{list as list_value, object as object_value};
 ghost use Rattle.json_value.specs.View.{items_of, members_of, kept_view};

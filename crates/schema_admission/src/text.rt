@@ -1,7 +1,7 @@
 //! Keywords of texts, and the keywords of one kind of value that hold no schema.
 ghost use Rattle.std.specs.Prelude.{◌≡◌, ◌≤◌, IfOk, IsErrOf, chars, length, map, option_map, string_bytes};
 ghost use Rattle.std.specs.List.{list_all};
-ghost use Rattle.run_io.specs.Bytes.{Rises};
+ghost use Rattle.schema_defs.specs.Faults.{Rises};
 ghost use Rattle.schema_defs.specs.Layer.{format_of, if_given, has_any as has_any_in, text_format_agrees, texts_agree as texts_say};
 ghost use Rattle.json_value.specs.View.{kept_view};
 ghost use Rattle.schema_types.specs.View.{numbers_view, object_view, properties_view, texts_view};

@@ -1,5 +1,6 @@
 pub mod Location
 pub mod Texts
+pub mod Faults
 pub mod Schema
 pub mod Integers
 pub mod Layer

@@ -1,6 +1,6 @@
 //! A judge that fails at given calls.
 ghost use Rattle.std.specs.Prelude.{◌≡◌, ◌↔◌, ◌+◌, ◌-◌, ◌^◌, ◌≤◌, min, Contains, IfOk, IfErr, IsErr, IsErrOf, OnOk, OnErr};
-ghost use Rattle.run_io.specs.Bytes.{Rises};
+ghost use Rattle.schema_defs.specs.Faults.{Rises};
 ghost use Rattle.schema_defs.specs.Texts.{IsLawful};
 
 use crate::judge::{TextFault, Texts};

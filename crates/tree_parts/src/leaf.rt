@@ -2,7 +2,7 @@
 ghost use Rattle.std.specs.Prelude.{◌≡◌, ◌≤◌, ◌||◌, ◌∷◌, [], List, ℕ, false, Some, IfOk, IfErr, IsErrOf, OnOk, bytes_eq, map, option_map, if◌then◌else◌};
 ghost use Rattle.std.specs.List.{list_any};
 ghost use Rattle.std.specs.BTreeSet.{contains_text};
-ghost use Rattle.run_io.specs.Bytes.{Rises};
+ghost use Rattle.schema_defs.specs.Faults.{Rises};
 ghost use Rattle.json_value.specs.Value.{Value as ValueOf, text as text_value};
 ghost use Rattle.schema_defs.specs.Layer.{if_given, texts_agree};
 ghost use Rattle.json_value.specs.View.{kept_view};

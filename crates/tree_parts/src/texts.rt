@@ -1,7 +1,7 @@
 //! What the judge of texts is asked.
 ghost use Rattle.std.specs.Prelude.{◌≡◌, ◌≤◌, IfOk, IsErrOf, chars, length, map, option_map, string_bytes};
 ghost use Rattle.std.specs.List.{list_all};
-ghost use Rattle.run_io.specs.Bytes.{Rises};
+ghost use Rattle.schema_defs.specs.Faults.{Rises};
 ghost use Rattle.schema_defs.specs.Layer.{if_given, within, texts_agree};
 ghost use Rattle.schema_types.specs.View.{properties_view, texts_view};
 ghost use Rattle.convert_defs.specs.Owners.{pattern_names};

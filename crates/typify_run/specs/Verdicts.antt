@@ -1,6 +1,6 @@
 -- A verdict for each of several values, or why there are none.
 use Rattle.std.specs.Prelude.{◌≡◌, ◌⊎◌, ℕ, List, [], ◌∷◌, ⊤}
-use Rattle.run_io.specs.Bytes.{Rises}
+use Rattle.schema_defs.specs.Faults.{Rises}
 use Rattle.serde_json.specs.Data.{Data}
 use Rattle.json_value.specs.View.{value_of}
 use Rattle.schema_defs.specs.Texts.{Relations}

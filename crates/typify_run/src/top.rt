@@ -1,7 +1,7 @@
 //! The run of the program, over any source, sink and judge of texts.
 ghost use Rattle.std.specs.Prelude.{◌≡◌, ◌≢◌, ◌≤◌, ◌↔◌, ◌⊎◌, false, ℕ, List, [], map, length, Some, None, string_bytes};
 ghost use Rattle.serde_json.specs.View.{view};
-ghost use Rattle.run_io.specs.Bytes.{Rises};
+ghost use Rattle.schema_defs.specs.Faults.{Rises};
 ghost use Rattle.schema_defs.specs.Texts.{Relations};
 ghost use Rattle.schema_tree.specs.Fault.{FaultD, fault_view};
 ghost use Rattle.run_input.specs.Input.{Parts, IsInput, IsNoInput, limit};

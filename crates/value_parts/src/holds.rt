@@ -1,7 +1,7 @@
 //! The rules of items.
 ghost use Rattle.std.specs.Prelude.{◌≡◌, ◌≤◌, ◌||◌, IfOk, IsErrOf, map, not, option_map, string_bytes};
 ghost use Rattle.std.specs.Option.{option_copied};
-ghost use Rattle.run_io.specs.Bytes.{Rises};
+ghost use Rattle.schema_defs.specs.Faults.{Rises};
 ghost use Rattle.model_defs.specs.Model.{rule_of as rule_of_in};
 ghost use Rattle.model_defs.specs.Layer.{given_rule_agrees};
 ghost use Rattle.schema_tree.specs.Conversions.{constraint_view, conversions_view, rule_view};

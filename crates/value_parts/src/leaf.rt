@@ -1,6 +1,6 @@
 //! Types behind their options and boxes.
 ghost use Rattle.std.specs.Prelude.{◌≡◌, ◌≤◌, ◌&&◌, IfErr, IfOk, IsErrOf};
-ghost use Rattle.run_io.specs.Bytes.{Rises};
+ghost use Rattle.schema_defs.specs.Faults.{Rises};
 ghost use Rattle.model_defs.specs.Layer.{is_null as is_null_value};
 ghost use Rattle.reading_defs.specs.Reading.{read_map};
 ghost use Rattle.json_value.specs.View.{kept_view};

@@ -1,6 +1,6 @@
 //! Values read as plain types, of which the value itself is refused.
 ghost use Rattle.std.specs.Prelude.{◌≡◌, ◌≤◌, IfErr, IfOk, IsErrOf, string_bytes};
-ghost use Rattle.run_io.specs.Bytes.{Rises};
+ghost use Rattle.schema_defs.specs.Faults.{Rises};
 ghost use Rattle.json_value.specs.View.{kept_view};
 ghost use Rattle.typed_defs.specs.Typed.{any as any_typed, text as text_typed};
 ghost use Rattle.value_models.specs.TypedView.{typed_view};

@@ -1,7 +1,7 @@
 //! Rules on values that were read.
 ghost use Rattle.std.specs.Prelude.{◌≡◌, ◌≤◌, ◌&&◌, IfOk, IsErrOf, chars, length, map, string_bytes};
 ghost use Rattle.std.specs.List.{list_all, list_any};
-ghost use Rattle.run_io.specs.Bytes.{Rises};
+ghost use Rattle.schema_defs.specs.Faults.{Rises};
 ghost use Rattle.schema_defs.specs.Layer.{is_listed as is_listed_in, within};
 ghost use Rattle.json_value.specs.View.{kept_view};
 ghost use Rattle.model_defs.specs.Layer.{has_one_of, rule_agrees as rule_says};

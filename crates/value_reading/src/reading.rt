@@ -1,6 +1,6 @@
 //! Values read as types: one level after the other.
 ghost use Rattle.std.specs.Prelude.{◌≡◌, ◌≤◌, ◌<◌, IfOk, IsErrOf, Some, length, map};
-ghost use Rattle.run_io.specs.Bytes.{Rises};
+ghost use Rattle.schema_defs.specs.Faults.{Rises};
 ghost use Rattle.model_defs.specs.Layer.{variant_content};
 ghost use Rattle.reading_defs.specs.Reading.{reading};
 ghost use Rattle.schema_tree.specs.Conversions.{conversions_view};

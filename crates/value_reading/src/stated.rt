@@ -1,6 +1,6 @@
 //! Whether types read stated defaults.
 ghost use Rattle.std.specs.Prelude.{◌≡◌, ◌≤◌, [], IfOk, IsErrOf, length};
-ghost use Rattle.run_io.specs.Bytes.{Rises};
+ghost use Rattle.schema_defs.specs.Faults.{Rises};
 ghost use Rattle.reading_defs.specs.Laws.{is_taken};
 ghost use Rattle.reading_defs.specs.Reading.{default_inside};
 ghost use Rattle.schema_tree.specs.Conversions.{conversions_view};
