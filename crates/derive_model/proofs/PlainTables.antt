@@ -10,8 +10,8 @@ use Rattle.attr_defs.specs.Renames.{Meaning}
 use Rattle.attr_defs.specs.Texts.{lexed}
 use Rattle.schema_defs.specs.Texts.{Relations}
 use Rattle.json_value.specs.View.{kept_view}
-use Rattle.schema_tree.specs.Conversions.{conversions_view}
-use Rattle.schema_tree.specs.declared.conversions.Conversions.{Conversions}
+use Rattle.conversion_table.specs.Conversions.{conversions_view}
+use Rattle.conversion_table.specs.declared.conversions.Conversions.{Conversions}
 use Rattle.model_defs.specs.Types.{TypeModel}
 use Rattle.model_defs.specs.Model.{ContainerModel, ConversionsD}
 use Rattle.reading_defs.specs.Laws.{is_sound, fields_are_sound, body_is_sound}

@@ -4,7 +4,7 @@ use Rattle.syntax_trees.specs.Item.{ItemD, item_view}
 use Rattle.attr_parts.specs.Diagnostics.{DiagnosticD, diagnostic_view}
 use Rattle.attr_defs.specs.Renames.{Meaning}
 use Rattle.model_defs.specs.Model.{ContainerModel, ConversionsD}
-use Rattle.schema_tree.specs.Conversions.{conversions_view}
+use Rattle.conversion_table.specs.Conversions.{conversions_view}
 use Rattle.value_models.specs.ContainersView.{containers_in}
 use Rattle.derive_model.specs.Items.{all_told, first_outside}
 use Rattle.derive_model.specs.declared.module.Module.{Module}

@@ -1,14 +1,14 @@
 //! What a module says of itself.
 ghost use Rattle.std.specs.Prelude.{◌≡◌};
 ghost use Rattle.syntax_trees.specs.View.{ty as ty_view};
-ghost use Rattle.schema_tree.specs.Conversions.{conversions_view};
+ghost use Rattle.conversion_table.specs.Conversions.{conversions_view};
 ghost use Rattle.container_defs.specs.Forms.{names_of, is_known};
 ghost use Rattle.model_defs.specs.Types.{type_of};
 ghost use Rattle.value_models.specs.ContainersView.{containers_in};
 ghost use Rattle.derive_model.specs.ModuleView.{items_in, models_in, conversions_in};
 
 use crate::module::Module;
-use schema_tree::Conversions;
+use conversion_table::Conversions;
 use syntax_trees::Ty;
 use value_models::Containers;
 

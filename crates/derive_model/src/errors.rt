@@ -1,6 +1,6 @@
 //! Why items make no module, and why values aren't read or judged.
 use attr_parts::Diagnostic;
-use schema_tree::Location;
+use locations::Location;
 
 /// Why items make no module.
 #[derive(Drop)]

@@ -16,7 +16,7 @@ ghost use Rattle.derive_model.specs.VerdictView.{verdict_view};
 use crate::errors::{JudgeError, ReadError};
 use crate::module::Module;
 use crate::verdict::{State, Verdict};
-use schema_tree::{TextFault, Texts};
+use schema_texts::{TextFault, Texts};
 use serde_json::Value;
 use std::alloc::AllocError;
 use syntax_trees::Ty;

@@ -2,8 +2,8 @@
 ghost use Rattle.form_laws.specs.Laws.{AreFit};
 ghost use Rattle.value_models.specs.ContainersView.{containers_in};
 
+use conversion_table::Conversions;
 use item_names::ItemNames;
-use schema_tree::Conversions;
 use std::alloc::Global;
 use value_models::Containers;
 

@@ -1,15 +1,15 @@
 //! The first item outside the forms.
 ghost use Rattle.std.specs.Prelude.{◌≡◌, map, option_map, IfOk};
 ghost use Rattle.syntax_trees.specs.Item.{item_view};
-ghost use Rattle.schema_tree.specs.Conversions.{conversions_view};
+ghost use Rattle.conversion_table.specs.Conversions.{conversions_view};
 ghost use Rattle.container_defs.specs.Forms.{names_of, leaves_forms};
 ghost use Rattle.derive_ast.specs.Views.{container_view};
 ghost use Rattle.derive_model.specs.Items.{first_from};
 
+use conversion_table::Conversions;
 use derive_ast::Container;
 use item_causes::is_outside;
 use item_names::ItemNames;
-use schema_tree::Conversions;
 use std::alloc::{AllocError, Global};
 
 fn leaves_forms(

@@ -15,7 +15,7 @@ ghost use Rattle.derive_model.specs.ModuleView.{conversions_in, models_in};
 use crate::errors::JudgeError;
 use crate::module::Module;
 use json_numbers::has_json_numbers;
-use schema_tree::{TextFault, Texts};
+use schema_texts::{TextFault, Texts};
 use serde_json::Value;
 use value_models::{Body, Container, Field, FieldDefault, Variant};
 use value_reading::reads_default;

@@ -3,7 +3,7 @@ ghost use Rattle.std.specs.Prelude.{◌≡◌, Option, Some, None, option_map};
 ghost use Rattle.serde_json.specs.View.{view};
 ghost use Rattle.derive_model.specs.VerdictView.{verdict_view, taken, refused, written_of, refused_at};
 
-use schema_tree::Location;
+use locations::Location;
 use serde_json::Value;
 
 /// What the containers say of a value. `Module::judge` alone makes one.

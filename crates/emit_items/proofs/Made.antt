@@ -9,7 +9,7 @@ use Rattle.model_defs.specs.Model.{RuleD, external_tag}
 use Rattle.attr_parts.specs.declared.values.TagType.{TagType}
 use Rattle.attr_parts.specs.declared.values.TagType.TheVariants as tags
 use Rattle.entry_defs.specs.Space.{Id, FieldAt, RestAt, VariantAt, Space, struct_shape_at, enum_shape_at, newtype_shape_at}
-use Rattle.schema_tree.specs.declared.conversions.Rule.{Rule}
+use Rattle.conversion_table.specs.declared.conversions.Rule.{Rule}
 use Rattle.schema_tree.specs.Conversions.{rule_view}
 use Rattle.entry_types.specs.declared.entry.TypeId.{TypeId}
 use Rattle.entry_types.specs.declared.item.ItemEntry.{ItemEntry}

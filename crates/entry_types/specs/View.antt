@@ -3,7 +3,7 @@ use Rattle.std.specs.Prelude.{ℕ, List, map, reverse, Option, option_map, codes
 use Rattle.attr_parts.specs.declared.values.TagType.{TagType}
 use Rattle.attr_parts.specs.declared.values.TagType.TheVariants as tags
 use Rattle.json_value.specs.View.{kept_view}
-use Rattle.schema_tree.specs.Conversions.{rule_view}
+use Rattle.conversion_table.specs.Conversions.{rule_view}
 use Rattle.model_defs.specs.Model.{TagModel, external_tag, internal_tag, adjacent_tag, untagged}
 use Rattle.entry_defs.specs.Entry as defs
 use Rattle.entry_defs.specs.Entry.{IntegerName, required, optional, stated}

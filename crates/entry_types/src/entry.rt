@@ -1,6 +1,6 @@
 //! Entries, by the ids of their parts.
 use crate::item::ItemEntry;
-use schema_tree::Format;
+use schema_defs::Format;
 
 /// The number of an entry in its space.
 #[derive(Clone, Copy, PartialEq, Eq, Hash)]

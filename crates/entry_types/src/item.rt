@@ -1,7 +1,7 @@
 //! Items: structs, enums and newtypes.
 use crate::entry::TypeId;
 use attr_parts::TagType;
-use schema_tree::Rule;
+use conversion_table::Rule;
 use serde_json::Value;
 
 /// An item. No other item of its space has its name.

@@ -2,19 +2,19 @@
 ghost use Rattle.std.specs.Prelude.{◌≡◌, map, IfOk};
 ghost use Rattle.std.specs.List.{list_any};
 ghost use Rattle.syntax_trees.specs.Item.{item_view};
-ghost use Rattle.schema_tree.specs.Conversions.{conversions_view};
+ghost use Rattle.conversion_table.specs.Conversions.{conversions_view};
 ghost use Rattle.container_defs.specs.Forms.{names_of, is_outside};
 ghost use Rattle.derive_ast.specs.Views.{container_view};
 ghost use Rattle.item_causes.specs.Causes.{rule_test, cause_test, causes};
 
 use crate::newtype::{has_odd_try_from, has_text_rule_elsewhere};
 use crate::place::has_unknown_default;
+use conversion_table::Conversions;
 use derive_ast::Container;
 use item_forms::{
     ContainerTest, FieldTest, ListTest, VariantTest, any_field, any_fields, any_variant, asked_of,
 };
 use item_names::ItemNames;
-use schema_tree::Conversions;
 use std::alloc::{AllocError, Global};
 
 /// What the table of conversions says of a container.

@@ -2,7 +2,7 @@
 ghost use Rattle.std.specs.Prelude.{◌≡◌, ◌&&◌, is_some, map, option_map, IfOk};
 ghost use Rattle.std.specs.List.{list_any};
 ghost use Rattle.syntax_trees.specs.View.{ty as ty_view};
-ghost use Rattle.schema_tree.specs.Conversions.{conversions_view};
+ghost use Rattle.conversion_table.specs.Conversions.{conversions_view};
 ghost use Rattle.container_defs.specs.declared.style.Style.TheVariants.{Newtype};
 ghost use Rattle.container_defs.specs.Container.{read_struct};
 ghost use Rattle.container_defs.specs.Forms.{same_type, newtype_type, is_text, is_text_rule};
@@ -12,10 +12,10 @@ ghost use Rattle.item_causes.specs.Newtypes.{or_outside, rules_for, converted, o
 
 use crate::rules::{has_one, has_text_rule};
 use container_defs::Style;
+use conversion_table::Conversions;
 use derive_ast::{Container, Data, Field};
 use item_forms::is_text;
 use same_types::is_same;
-use schema_tree::Conversions;
 use std::alloc::{AllocError, Global};
 use syntax_trees::Ty;
 use value_types::value_type;

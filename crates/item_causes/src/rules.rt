@@ -1,11 +1,11 @@
 //! The rules of a name.
 ghost use Rattle.std.specs.Prelude.{◌≡◌, filter, bytes_eq, map};
 ghost use Rattle.std.specs.List.{list_any};
-ghost use Rattle.schema_tree.specs.Conversions.{constraint_view, rule_view};
+ghost use Rattle.conversion_table.specs.Conversions.{constraint_view, rule_view};
 ghost use Rattle.container_defs.specs.Checks.{is_one};
 ghost use Rattle.container_defs.specs.Forms.{is_text_rule};
 
-use schema_tree::{Constraint, Rule};
+use conversion_table::{Constraint, Rule};
 
 fn is_of(constraint: &Constraint, name: &str) -> bool
     ensures { result ≡ bytes_eq (constraint_view constraint.now).item name.now }

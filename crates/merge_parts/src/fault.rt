@@ -2,7 +2,7 @@
 ghost use Rattle.std.specs.Prelude.{◌≡◌};
 ghost use Rattle.merge_parts.specs.declared.fault.MergeFault.TheVariants.{Memory};
 
-use schema_types::Walk;
+use locations::Walk;
 use std::alloc::{AllocError, AllocFailed};
 
 /// What no merge is made of.

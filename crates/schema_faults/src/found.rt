@@ -3,7 +3,7 @@
 ghost use Rattle.std.specs.Prelude.{◌≡◌, [], ◌∷◌, IfOk};
 ghost use Rattle.schema_defs.specs.Location.{place as place_step};
 
-use schema_types::Location;
+use locations::Location;
 use std::alloc::{AllocError, Global};
 use std::marker::Model;
 

@@ -5,7 +5,7 @@ use Rattle.serde_json.specs.View.{view}
 use Rattle.json_value.specs.Value.{Value}
 use Rattle.json_value.specs.View.{value_of}
 use Rattle.schema_defs.specs.Location.{Location, location_text}
-use Rattle.schema_types.specs.Walk.{first_of_walk, last_of_walk}
+use Rattle.locations.specs.Walk.{first_of_walk, last_of_walk}
 use Rattle.schema_tree.specs.declared.fault.InvalidKind.{InvalidKind}
 use Rattle.schema_tree.specs.declared.fault.UnsupportedKind.{UnsupportedKind}
 use Rattle.schema_tree.specs.declared.fault.Fault.{Fault}

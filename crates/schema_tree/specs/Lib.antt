@@ -2,4 +2,4 @@ pub mod Fault
 pub mod KeptName
 pub mod Numbers
 pub mod Document
-pub mod Conversions
+pub use Rattle.conversion_table.specs.Conversions

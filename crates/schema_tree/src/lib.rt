@@ -2,7 +2,6 @@
 //! conversion table.
 #![tactic(auto)]
 
-mod conversions;
 mod document;
 mod fault;
 mod guarded;
@@ -11,7 +10,7 @@ mod number;
 mod print;
 mod wide;
 
-pub use conversions::{Constraint, Conversions, Rule};
+pub use conversion_table::{Constraint, Conversions, Rule};
 pub use fault::{Fault, InvalidKind, UnsupportedKind};
 pub use guarded::Document;
 pub use json_value::is_whole;

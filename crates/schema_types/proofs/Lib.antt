@@ -1,5 +1,3 @@
-pub mod Escapes
-pub mod Walks
 pub mod Entries
 pub mod References
 pub mod Alike

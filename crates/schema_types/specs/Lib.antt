@@ -1,4 +1,3 @@
-pub mod Walk
 pub mod View
 pub mod DocumentView
 pub mod Shallow

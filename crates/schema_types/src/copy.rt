@@ -3,11 +3,11 @@ ghost use Rattle.std.specs.Prelude.{◌≡◌, IfOk, option_map, map, string_byt
 ghost use Rattle.json_value.specs.View.{kept_view};
 ghost use Rattle.schema_types.specs.View.{types_view, texts_view, schema_view, object_view, subschemas_view, items_view, array_view, members_view, schemas_view, properties_view, maybe_view};
 
-use crate::location::Walk;
 use crate::schema::{
     ArrayValidation, Items, ObjectValidation, Schema, SchemaObject, StringValidation, Subschemas,
     Types,
 };
+use locations::Walk;
 use schema_defs::InstanceType;
 use serde_json::Value;
 use std::alloc::{AllocError, Global};

@@ -7,10 +7,10 @@ ghost use Rattle.schema_defs.specs.Laws.{NamesRise};
 ghost use Rattle.schema_types.specs.View.{schema_view};
 ghost use Rattle.schema_types.specs.DocumentView.{document_view, definitions_view, placed_view, placed_of};
 
-use crate::location::Location;
 use crate::place::{Node, after, schema_of};
 use crate::reference::{decodes_to, is_escaped, written_name};
 use crate::schema::Schema;
+use locations::Location;
 use schema_defs::Setting;
 use std::alloc::{AllocError, Global};
 use std::collections::BTreeMap;

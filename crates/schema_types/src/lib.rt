@@ -1,11 +1,10 @@
-//! Places in a document, walks of such places, and schemas (JSON Schema Draft 7, in the profile that is read) as the
-//! program holds them.
+//! Schemas and documents (JSON Schema Draft 7, in the profile that is read) as the program holds them, with the places in
+//! a document and the walks of such places.
 #![tactic(auto)]
 
 mod copy;
 mod document;
 pub mod laws;
-mod location;
 mod object;
 mod place;
 mod reference;
@@ -15,7 +14,7 @@ mod validate;
 
 pub use copy::{copy_list_of_texts, copy_list_of_values, copy_names, copy_type_names};
 pub use document::{Definition, Document, Names};
-pub use location::{Location, Walk};
+pub use locations::{Location, Walk};
 pub use object::as_schema;
 pub use reference::written_name;
 pub use schema::{

@@ -1,5 +1,5 @@
 //! Schemas. A part of a schema is there where one of its keywords stands (JSON Schema Draft 7).
-use crate::location::Walk;
+use locations::Walk;
 use schema_defs::InstanceType;
 use serde_json::Value;
 use std::collections::{BTreeMap, BTreeSet};

@@ -1,6 +1,6 @@
 -- What a setting of the program stands for, where texts are judged as these relations say.
 use Rattle.schema_defs.specs.Texts.{Relations}
-use Rattle.schema_tree.specs.Conversions.{conversions_view}
+use Rattle.conversion_table.specs.Conversions.{conversions_view}
 use Rattle.value_models.specs.ContainersView.{containers_in}
 use Rattle.value_parts.specs.declared.setting.Setting as setting'
 use Rattle.value_parts.specs.At.{Setting}

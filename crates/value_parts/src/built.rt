@@ -3,7 +3,7 @@ ghost use Rattle.std.specs.Prelude.{◌≡◌, [], IfErr, IfOk};
 ghost use Rattle.typed_defs.specs.Typed.{list as list_typed, map_of as map_typed, newtype as newtype_typed, pairs, some as some_typed, struct as struct_typed, typeds, variant as variant_typed};
 ghost use Rattle.value_models.specs.TypedView.{pairs_view, typed_view, typeds_view};
 
-use schema_tree::TextFault;
+use schema_texts::TextFault;
 use std::alloc::Global;
 use value_models::Typed;
 

@@ -12,7 +12,7 @@ use crate::built::bare_variant;
 use crate::members::{Member, member_named, members_of, members_without};
 use crate::outcome::{Outcome, refused_at, refused_here};
 use crate::variants::{Found, is_unit, tagged, variant_named};
-use schema_tree::TextFault;
+use schema_texts::TextFault;
 use serde_json::Value;
 use std::alloc::Global;
 use value_models::{Fields, Style, Tag, Typed, Variant, Variants};

@@ -4,12 +4,13 @@ ghost use Rattle.std.specs.Option.{option_copied};
 ghost use Rattle.schema_defs.specs.Faults.{Rises};
 ghost use Rattle.model_defs.specs.Model.{rule_of as rule_of_in};
 ghost use Rattle.model_defs.specs.Layer.{given_rule_agrees};
-ghost use Rattle.schema_tree.specs.Conversions.{constraint_view, conversions_view, rule_view};
+ghost use Rattle.conversion_table.specs.Conversions.{constraint_view, conversions_view, rule_view};
 ghost use Rattle.json_value.specs.View.{kept_view};
 ghost use Rattle.value_models.specs.ContainerView.{container_view};
 
 use crate::rules::rule_agrees;
-use schema_tree::{Constraint, Conversions, Rule, TextFault, Texts};
+use conversion_table::{Constraint, Conversions, Rule};
+use schema_texts::{TextFault, Texts};
 use serde_json::Value;
 use value_models::Container;
 

@@ -12,7 +12,7 @@ ghost use Rattle.value_parts.specs.Seen.{one_view};
 use crate::built::some_of;
 use crate::outcome::{Outcome, refused_here};
 use crate::plain::{read_any, read_boolean, read_integer, read_native, read_text, read_unit};
-use schema_tree::{TextFault, Texts};
+use schema_texts::{TextFault, Texts};
 use serde_json::Value;
 use std::alloc::Global;
 use value_models::{Typed, ValueType};

@@ -6,7 +6,7 @@ ghost use Rattle.json_value.specs.View.{members_of as members_in, kept_view};
 ghost use Rattle.value_parts.specs.Choice.{entries_without, entry_of};
 ghost use Rattle.value_parts.specs.Entries.{entries_view, entry_view};
 
-use schema_tree::TextFault;
+use schema_texts::TextFault;
 use serde_json::Value;
 use serde_json::value::Map;
 use std::alloc::Global;

@@ -14,7 +14,7 @@ ghost use Rattle.value_parts.specs.Leaves.{absence as absence_in};
 use crate::built::{newtype_of, no_items, no_pairs};
 use crate::outcome::{Outcome, given, refused_here};
 use crate::setting::Setting;
-use schema_tree::TextFault;
+use schema_texts::TextFault;
 use std::alloc::Global;
 use value_models::{Body, Container, Containers, Field, Helper, Style, Typed, ValueType};
 

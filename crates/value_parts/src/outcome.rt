@@ -7,7 +7,8 @@ ghost use Rattle.value_models.specs.TypedView.{typed_view};
 ghost use Rattle.value_parts.specs.Seen.{one_view, pair_view, pairs_read_view, several_view};
 
 use crate::built::{bare_variant, list_of, map_of, newtype_of, some_of, struct_of, variant_of};
-use schema_tree::{Location, TextFault};
+use locations::Location;
+use schema_texts::TextFault;
 use std::alloc::{AllocError, Global};
 use value_models::Typed;
 

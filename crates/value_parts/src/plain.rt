@@ -8,7 +8,8 @@ ghost use Rattle.reading_defs.specs.Reading.{boolean_read, integer_read, native_
 ghost use Rattle.value_parts.specs.Seen.{outcome_view, whole_of};
 
 use crate::outcome::{Outcome, refused_here};
-use schema_tree::{Format, TextFault, Texts};
+use schema_defs::Format;
+use schema_texts::{TextFault, Texts};
 use serde_json::Value;
 use std::alloc::Global;
 use value_models::Typed;

@@ -5,10 +5,11 @@ ghost use Rattle.schema_defs.specs.Faults.{Rises};
 ghost use Rattle.schema_defs.specs.Layer.{is_listed as is_listed_in, within};
 ghost use Rattle.json_value.specs.View.{kept_view};
 ghost use Rattle.model_defs.specs.Layer.{has_one_of, rule_agrees as rule_says};
-ghost use Rattle.schema_tree.specs.Conversions.{rule_view};
+ghost use Rattle.conversion_table.specs.Conversions.{rule_view};
 
+use conversion_table::Rule;
 use json_value::same;
-use schema_tree::{Rule, TextFault, Texts};
+use schema_texts::{TextFault, Texts};
 use serde_json::Value;
 
 fn is_within(least: Option<u32>, most: Option<u32>, count: usize) -> bool

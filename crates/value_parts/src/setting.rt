@@ -2,11 +2,12 @@
 ghost use Rattle.std.specs.Prelude.{◌≡◌, ◌∷◌, IfErr, IfOk, length, map, nat_eq, option_map, slice_get};
 ghost use Rattle.std.specs.List.{list_any};
 ghost use Rattle.model_defs.specs.Reads.{allowed as allowed_in};
-ghost use Rattle.schema_tree.specs.Conversions.{conversions_view};
+ghost use Rattle.conversion_table.specs.Conversions.{conversions_view};
 ghost use Rattle.json_value.specs.View.{kept_view};
 ghost use Rattle.value_models.specs.ContainersView.{containers_in};
 
-use schema_tree::{Conversions, TextFault};
+use conversion_table::Conversions;
+use schema_texts::TextFault;
 use serde_json::Value;
 use std::alloc::Global;
 use value_models::Containers;

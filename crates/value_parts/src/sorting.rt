@@ -10,7 +10,7 @@ ghost use Rattle.value_parts.specs.SortedView.{IsSorted, sorted_entries, sorted_
 use crate::members::{Member, push_member};
 use crate::slots::{Slot, with_member};
 use crate::sorted::Sorted;
-use schema_tree::TextFault;
+use schema_texts::TextFault;
 use std::alloc::Global;
 use value_models::{Field, Fields};
 

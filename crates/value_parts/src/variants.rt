@@ -7,7 +7,7 @@ ghost use Rattle.value_models.specs.ContainerView.{variants_in};
 ghost use Rattle.value_parts.specs.Choice.{tagged as tagged_in, variant_from};
 ghost use Rattle.value_parts.specs.Entries.{found_view};
 
-use schema_tree::TextFault;
+use schema_texts::TextFault;
 use serde_json::Value;
 use value_models::{Style, Variant, Variants};
 

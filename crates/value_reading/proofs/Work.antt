@@ -2,7 +2,7 @@
 use Rattle.std.proofs.Common.{ℕ, ◌+◌, List, [], ◌∷◌}
 use Rattle.json_value.specs.Value.{Value, value_size}
 use Rattle.model_defs.specs.Reads.{allowed}
-use Rattle.schema_tree.specs.Conversions.{conversions_view}
+use Rattle.conversion_table.specs.Conversions.{conversions_view}
 use Rattle.value_models.specs.ContainersView.{containers_in}
 use Rattle.value_parts.specs.declared.setting.Setting.{Setting}
 use Rattle.value_reading.proofs.Order.{pack}

@@ -12,7 +12,7 @@ ghost use Rattle.value_models.specs.TypedView.{typed_view, typeds_view};
 ghost use Rattle.value_parts.specs.Seen.{one_view, several_view};
 
 use json_value::same;
-use schema_tree::TextFault;
+use schema_texts::TextFault;
 use serde_json::Value;
 use std::alloc::Global;
 use value_models::{Containers, Typed, ValueType};

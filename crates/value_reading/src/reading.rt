@@ -3,7 +3,7 @@ ghost use Rattle.std.specs.Prelude.{◌≡◌, ◌≤◌, ◌<◌, IfOk, IsErrOf
 ghost use Rattle.schema_defs.specs.Faults.{Rises};
 ghost use Rattle.model_defs.specs.Layer.{variant_content};
 ghost use Rattle.reading_defs.specs.Reading.{reading};
-ghost use Rattle.schema_tree.specs.Conversions.{conversions_view};
+ghost use Rattle.conversion_table.specs.Conversions.{conversions_view};
 ghost use Rattle.json_value.specs.View.{kept_view};
 ghost use Rattle.value_models.specs.ContainersView.{containers_in};
 ghost use Rattle.value_models.specs.ContainerView.{body_view, container_view, tag_view, variants_in};
@@ -20,7 +20,8 @@ ghost use Rattle.value_parts.specs.SortedView.{IsSorted, sorted_entries, sorted_
 ghost use Rattle.value_reading.specs.Steps.{default_stated, helped_at, inner_at, newtype_at, only_at, pair_at, part_at, place_at, variant_at};
 
 use crate::apart::as_set;
-use schema_tree::{Conversions, TextFault, Texts};
+use conversion_table::Conversions;
+use schema_texts::{TextFault, Texts};
 use serde_json::Value;
 use std::alloc::Global;
 use value_models::{

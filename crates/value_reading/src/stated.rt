@@ -3,13 +3,14 @@ ghost use Rattle.std.specs.Prelude.{◌≡◌, ◌≤◌, [], IfOk, IsErrOf, len
 ghost use Rattle.schema_defs.specs.Faults.{Rises};
 ghost use Rattle.reading_defs.specs.Laws.{is_taken};
 ghost use Rattle.reading_defs.specs.Reading.{default_inside};
-ghost use Rattle.schema_tree.specs.Conversions.{conversions_view};
+ghost use Rattle.conversion_table.specs.Conversions.{conversions_view};
 ghost use Rattle.value_models.specs.ContainersView.{containers_in};
 ghost use Rattle.value_models.specs.TypeView.{type_view};
 ghost use Rattle.value_parts.specs.Seen.{one_view};
 
 use crate::reading::read_default;
-use schema_tree::{Conversions, TextFault, Texts};
+use conversion_table::Conversions;
+use schema_texts::{TextFault, Texts};
 use std::alloc::Global;
 use value_models::{Containers, Typed, ValueType};
 use value_parts::{MOST_LEVELS, Outcome, Setting, count_defaults};

@@ -1,4 +1,4 @@
-use Rattle.schema_tree.specs.Conversions.{conversions_view}
+use Rattle.conversion_table.specs.Conversions.{conversions_view}
 use Rattle.derive_model.proofs.Whys.{fit_models}
 use Rattle.derive_model.proofs.making.modelled.Goals as goal
 

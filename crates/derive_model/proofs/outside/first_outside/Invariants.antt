@@ -1,6 +1,6 @@
 use Rattle.std.proofs.Common.{◌≡◌, map, drop, option_map}
 use Rattle.syntax_trees.specs.Item.{item_view}
-use Rattle.schema_tree.specs.Conversions.{conversions_view}
+use Rattle.conversion_table.specs.Conversions.{conversions_view}
 use Rattle.container_defs.specs.Forms.{names_of, leaves_forms}
 use Rattle.derive_ast.specs.Views.{container_view}
 use Rattle.derive_model.specs.Items.{first_from}

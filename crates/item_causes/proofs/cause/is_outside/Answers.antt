@@ -1,7 +1,7 @@
 use Rattle.std.proofs.Common.{map, ap, ◌∙◌}
 use Rattle.std.specs.List.{list_any}
 use Rattle.syntax_trees.specs.Item.{item_view}
-use Rattle.schema_tree.specs.Conversions.{conversions_view}
+use Rattle.conversion_table.specs.Conversions.{conversions_view}
 use Rattle.container_defs.specs.Forms.{names_of}
 use Rattle.derive_ast.specs.Views.{container_view}
 use Rattle.item_causes.specs.Causes.{cause_test}

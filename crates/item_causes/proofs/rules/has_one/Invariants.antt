@@ -1,6 +1,6 @@
 use Rattle.std.proofs.Common.{◌≡◌, drop}
 use Rattle.std.specs.Prelude.{bytes_eq}
-use Rattle.schema_tree.specs.Conversions.{constraint_view}
+use Rattle.conversion_table.specs.Conversions.{constraint_view}
 use Rattle.container_defs.specs.Checks.{is_one}
 use Rattle.item_causes.proofs.Filtered.{one_left, left_of}
 use Rattle.item_causes.proofs.rules.has_one.Given as goal

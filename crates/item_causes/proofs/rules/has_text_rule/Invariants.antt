@@ -1,7 +1,7 @@
 use Rattle.std.proofs.Common.{◌≡◌, drop}
 use Rattle.std.specs.Prelude.{bytes_eq}
 use Rattle.std.specs.List.{list_any}
-use Rattle.schema_tree.specs.Conversions.{constraint_view}
+use Rattle.conversion_table.specs.Conversions.{constraint_view}
 use Rattle.container_defs.specs.Forms.{is_text_rule}
 use Rattle.item_causes.proofs.Filtered.{left_of}
 use Rattle.item_causes.proofs.rules.has_text_rule.Given as goal

@@ -1,6 +1,6 @@
 use Rattle.std.proofs.Common.{◌≡◌, drop, map}
 use Rattle.model_defs.specs.Model.{rule_of}
-use Rattle.schema_tree.specs.Conversions.{constraint_view}
+use Rattle.conversion_table.specs.Conversions.{constraint_view}
 use Rattle.value_parts.proofs.holds.rule_of.Given as goal
 
 abbrev pub invariant-loop-constraint : goal.invariant-loop-constraint

@@ -2,7 +2,7 @@ use Rattle.std.proofs.Common.{◌≡◌, ℕ, zero, suc, ◌+◌, ◌-◌, ◌<�
 use Rattle.serde_json.specs.declared.value.Value.TheVariants as json'
 use Rattle.json_value.specs.Value.{value_size, entries}
 use Rattle.schema_defs.specs.Location.{place}
-use Rattle.schema_tree.specs.Conversions.{conversions_view}
+use Rattle.conversion_table.specs.Conversions.{conversions_view}
 use Rattle.json_value.specs.View.{kept_view}
 use Rattle.model_defs.specs.Model.{rule_of}
 use Rattle.model_defs.specs.Layer.{given_rule_agrees}

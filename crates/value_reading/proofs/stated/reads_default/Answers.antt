@@ -1,5 +1,5 @@
 use Rattle.std.proofs.Common.{◌∙◌}
-use Rattle.schema_tree.specs.Conversions.{conversions_view}
+use Rattle.conversion_table.specs.Conversions.{conversions_view}
 use Rattle.value_models.specs.ContainersView.{containers_in}
 use Rattle.value_models.specs.TypeView.{type_view}
 use Rattle.value_parts.specs.Seen.{one_view}

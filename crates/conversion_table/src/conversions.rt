@@ -1,6 +1,6 @@
 //! The conversion table: what values of an item's type must meet beyond the type itself, and the stated defaults.
 ghost use Rattle.std.specs.Prelude.{◌≡◌, [], IfOk};
-ghost use Rattle.schema_tree.specs.Conversions.{rule_view};
+ghost use Rattle.conversion_table.specs.Conversions.{rule_view};
 
 use schema_types::{copy_list_of_texts, copy_list_of_values};
 use serde_json::Value;

@@ -1,7 +1,7 @@
 use Rattle.std.proofs.Common.{◌≡◌, ◌++◌, string_bytes}
 use Rattle.std.specs.Str.Iter.{chars_rest}
 use Rattle.schema_defs.specs.Location.{escaped}
-use Rattle.schema_types.proofs.location.push_escaped.Given as goal
+use Rattle.locations.proofs.location.push_escaped.Given as goal
 
 abbrev pub invariant-loop-c : goal.invariant-loop-c
 invariant-loop-c l = string_bytes l.fn.text ++ escaped l.fn.step ≡ string_bytes l.text ++ escaped (chars_rest l.c-iterator)

@@ -2,7 +2,7 @@
 use Rattle.std.proofs.Common.{◌≡◌, ◌-◌, List, [], ◌∷◌, length, Some, ap, sym, ◌∙◌, arith}
 use Rattle.std.specs.List.{slice_get}
 use Rattle.schema_defs.specs.Location.{Location}
-use Rattle.schema_types.specs.Walk.{last_of_walk}
+use Rattle.locations.specs.Walk.{last_of_walk}
 
 last_from : (l : Location) (ls : List Location) (m : Location) → slice_get (l ∷ ls) (length ls) ≡ Some m → last_of_walk (l ∷ ls) ≡ m
 last_from l [] m h = cc

@@ -1,7 +1,7 @@
 use Rattle.std.proofs.Common.{arith}
 use Rattle.std.proofs.lemmas.Grind.{common_steps}
-use Rattle.schema_types.proofs.Escapes.{plain_step}
-use Rattle.schema_types.proofs.location.push_escaped.Goals as goal
+use Rattle.locations.proofs.Escapes.{plain_step}
+use Rattle.locations.proofs.location.push_escaped.Goals as goal
 
 pub loop-c-preserved : goal.loop-c-preserved
 loop-c-preserved c =

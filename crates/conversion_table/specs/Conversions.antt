@@ -2,10 +2,10 @@
 use Rattle.std.specs.Prelude.{map, string_bytes}
 use Rattle.model_defs.specs.Model.{RuleD, text_rule, allow_rule, deny_rule, ConstraintD, ConversionsD}
 use Rattle.json_value.specs.View.{kept_view}
-use Rattle.schema_tree.specs.declared.conversions.Rule.{Rule}
-use Rattle.schema_tree.specs.declared.conversions.Rule.TheVariants.{Text, Allow, Deny}
-use Rattle.schema_tree.specs.declared.conversions.Constraint.{Constraint}
-use Rattle.schema_tree.specs.declared.conversions.Conversions.{Conversions}
+use Rattle.conversion_table.specs.declared.conversions.Rule.{Rule}
+use Rattle.conversion_table.specs.declared.conversions.Rule.TheVariants.{Text, Allow, Deny}
+use Rattle.conversion_table.specs.declared.conversions.Constraint.{Constraint}
+use Rattle.conversion_table.specs.declared.conversions.Conversions.{Conversions}
 
 abbrev pub rule_view : Rule → RuleD
 rule_view (Text least most all any) = text_rule (record { least = least; most = most; all = map string_bytes all.items; any = map string_bytes any.items })

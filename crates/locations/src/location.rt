@@ -1,7 +1,7 @@
 //! Where a schema or a value stands: the steps that lead to it from the root, and walks of such places.
 ghost use Rattle.std.specs.Prelude.{◌≡◌, [], ◌∷◌, ◌++◌, IfOk, map, string_bytes};
 ghost use Rattle.schema_defs.specs.Location.{escaped, location_text};
-ghost use Rattle.schema_types.specs.Walk.{first_of_walk, last_of_walk};
+ghost use Rattle.locations.specs.Walk.{first_of_walk, last_of_walk};
 
 use std::alloc::{AllocError, Global};
 use std::marker::Model;
