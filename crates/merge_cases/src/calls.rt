@@ -2,7 +2,7 @@
 use crate::show::push_schema;
 use case_words::{fault_text, push_fault};
 use merge_parts::{MergeKind, Way};
-use schema_merge::{Merged, PlacedNote, merge_all, subtract, try_merge_with_subschemas};
+use schema_merge::{Merged, PlacedNote, Roughly, merge_all, subtract, try_merge_with_subschemas};
 use schema_tree::{Document, Fault, Schema, SchemaObject};
 use serde_json::Value;
 use std::alloc::{AllocError, Global};
@@ -14,6 +14,7 @@ pub enum Call {
     Merge,
     Subschemas,
     Subtract,
+    Roughly,
 }
 
 /// The answer of the call as text.
@@ -38,6 +39,7 @@ fn asked(
         Call::Merge => merged(alloc, depth, document, object),
         Call::Subschemas => with_subschemas(alloc, depth, document, object),
         Call::Subtract => subtracted(alloc, depth, document, object),
+        Call::Roughly => String::from_str(alloc, likeness(members_of(object))),
     }
 }
 
@@ -103,6 +105,19 @@ fn subtracted(
             text_of(alloc, found)
         }
         _ => String::from_str(alloc, "no case"),
+    }
+}
+
+fn likeness(members: &[Schema]) -> &'static str {
+    match members {
+        [first, second, ..] => {
+            if first.roughly(second) {
+                "alike"
+            } else {
+                "other"
+            }
+        }
+        _ => "no case",
     }
 }
 

@@ -1,6 +1,6 @@
 //! Merges and subtractions. Each line of standard input is a call, how many steps walks may have, and a document, with spaces between them: `merge N DOCUMENT`
 //! merges the members of the root's `allOf`, `subschemas N DOCUMENT` the root's other keywords with its subschemas, and `subtract N DOCUMENT` takes the root's `not`
-//! away from the first member of its `allOf`. `chain N COUNT` merges so many objects with a
+//! away from the first member of its `allOf`; `roughly N DOCUMENT` says whether the first two members of the root's `allOf` are roughly alike. `chain N COUNT` merges so many objects with a
 //! required property each, and `nested N COUNT` what so many definitions lead to, each by an `allOf`. The line is printed, and behind it the merged schema or `never` and each note behind a semicolon, or what is refused.
 #![tactic(auto)]
 
@@ -68,6 +68,7 @@ fn call_of(word: &str) -> Option<Call> {
         "merge" => Some(Call::Merge),
         "subschemas" => Some(Call::Subschemas),
         "subtract" => Some(Call::Subtract),
+        "roughly" => Some(Call::Roughly),
         _ => None,
     }
 }

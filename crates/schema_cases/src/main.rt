@@ -1,86 +1,113 @@
-//! Documents, places, names, numbers, schemas that are looked up, values by their lists, and graphs. Each line of standard input is a
-//! word and what it asks about, with tabs between them. The line is printed, and behind it the answer:
-//! - `document VALUE`: the names of the definitions, or the fault; `fault VALUE`: that it is read, or the fault's line;
-//! - `line memory` and `line nowhere`: the lines of faults that no document has;
-//! - `text STEPS`, `name TEXT` and `numbers VALUE`: a place's text, whether a name is kept, whether each number is an i64;
-//! - `at STEPS DOCUMENT` and `to REFERENCE DOCUMENT`: what stands there, by its title;
-//! - `keywords DOCUMENT`, `references DOCUMENT` and `copy DOCUMENT`: what the root holds, and whether copies of it are the same;
-//! - `takes SCHEMA VALUE`: whether the root's lists take the value;
-//! - `graph ROWS` and `nodes KIND COUNT`: the first loop of a graph, or how long that of a large one is;
-//! - `large KIND COUNT` and `chain NAME COUNT`: what a large document is read as.
+//! Cases of documents and values, and of what they are made of: the lines of standard input, each of the table that the last line before it with `## ` names. For
+//! each a line is printed.
+//!
+//! - `## schemas`: documents, places and graphs (schemas.rt);
+//! - `## parts`: formats, whole numbers, names and graphs (parts.rt);
+//! - `## streams`: sources and sinks (streams.rt);
+//! - `## enums`: what is told of members of `anyOf` (enums.rt);
+//! - `## values`: values that are read as types, and written again (values.rt);
+//! - `## admission`: values that schemas admit, and texts that have patterns (admitted.rt).
 #![tactic(auto)]
 
+mod admitted;
 mod document;
+mod enums;
 mod graph;
 mod keywords;
 mod large;
+mod parts;
 mod place;
 mod schema;
+mod schemas;
+mod streams;
+mod values;
 
-use document::{document_text, ending, line_text};
-use graph::loop_of_rows;
-use keywords::{copy_text, keywords_text, references_text};
-use large::{chain_text, large_text, nodes_text};
-use place::place_text;
-use schema::{looked_up, referred_to, taken};
-use schema_tree::{holds_i64_alone, is_kept_name};
-use serde_json::Value;
-use std::alloc::{AllocError, Global};
+use anyhow::Error;
+use regex_texts::RegexTexts;
+use std::alloc::Global;
+use values::{Tables, no_tables};
 
-fn main(rt: HostRuntime) -> Result<(), anyhow::Error> {
-    for line in rt.lines(rt.alloc()) {
+#[derive(Clone, Copy)]
+enum Table {
+    Schemas,
+    Parts,
+    Streams,
+    Enums,
+    Values,
+    Admission,
+}
+
+fn main(rt: HostRuntime) -> Result<(), Error> {
+    let alloc = rt.alloc();
+    let mut table = Table::Schemas;
+    let mut texts = RegexTexts::new(alloc);
+    let mut tables = no_tables(alloc)?;
+    for line in rt.lines(alloc) {
         let line = line?;
-        let found = answer(rt.alloc(), &line)?;
-        println!(rt; "{line} => {found}")?;
+        match line.strip_prefix("## ") {
+            Some(name) => {
+                table = table_of(name);
+                println!(rt; "{line}")?;
+            }
+            None => {
+                if let Some(found) = answer(alloc, table, &mut texts, &mut tables, &line)? {
+                    println!(rt; "{found}")?;
+                }
+            }
+        }
     }
     Ok(())
 }
 
-fn answer(alloc: Global, line: &str) -> Result<String, AllocError> {
-    let Some((word, asked)) = line.split_once('\t') else {
-        return String::from_str(alloc, "no case");
-    };
-    match asked.split_once('\t') {
-        None => answer_one(alloc, word, asked),
-        Some((first, second)) => answer_two(alloc, word, first, second),
+fn table_of(name: &str) -> Table {
+    match name {
+        "parts" => Table::Parts,
+        "streams" => Table::Streams,
+        "enums" => Table::Enums,
+        "values" => Table::Values,
+        "admission" => Table::Admission,
+        _ => Table::Schemas,
     }
 }
 
-fn answer_one(alloc: Global, word: &str, asked: &str) -> Result<String, AllocError> {
-    match word {
-        "document" => document_text(alloc, asked),
-        "fault" => ending(alloc, asked),
-        "line" => line_text(alloc, asked),
-        "text" => place_text(alloc, asked),
-        "name" => String::from_str(alloc, said(is_kept_name(asked))),
-        "numbers" => numbers(alloc, asked),
-        "graph" => loop_of_rows(alloc, asked),
-        "keywords" => keywords_text(alloc, asked),
-        "references" => references_text(alloc, asked),
-        "copy" => copy_text(alloc, asked),
-        _ => String::from_str(alloc, "no case"),
+// The line that is printed, if one is.
+fn answer(
+    alloc: Global,
+    table: Table,
+    texts: &mut RegexTexts,
+    tables: &mut Tables,
+    line: &str,
+) -> Result<Option<String>, Error> {
+    match table {
+        Table::Values => Ok(values::answer(alloc, tables, texts, line)?),
+        Table::Enums => Ok(Some(enums::answer(alloc, line)?)),
+        _ => Ok(Some(behind(alloc, table, texts, line)?)),
     }
 }
 
-fn answer_two(alloc: Global, word: &str, first: &str, second: &str) -> Result<String, AllocError> {
-    match word {
-        "at" => looked_up(alloc, first, second),
-        "to" => referred_to(alloc, first, second),
-        "takes" => taken(alloc, first, second),
-        "large" => large_text(alloc, first, second),
-        "chain" => chain_text(alloc, first, second),
-        "nodes" => nodes_text(alloc, first, second),
-        _ => String::from_str(alloc, "no case"),
+// The line, and the answer behind an arrow.
+fn behind(
+    alloc: Global,
+    table: Table,
+    texts: &mut RegexTexts,
+    line: &str,
+) -> Result<String, Error> {
+    match table {
+        Table::Parts => {
+            let found = parts::answer(alloc, line)?;
+            Ok(format!(in alloc; "{line} =>{found}")?)
+        }
+        Table::Admission => {
+            let found = admitted::answer(alloc, texts, line)?;
+            Ok(format!(in alloc; "{line} =>{found}")?)
+        }
+        Table::Streams => {
+            let found = streams::answer(alloc, line)?;
+            Ok(format!(in alloc; "{line} => {found}")?)
+        }
+        _ => {
+            let found = schemas::answer(alloc, line)?;
+            Ok(format!(in alloc; "{line} => {found}")?)
+        }
     }
-}
-
-fn numbers(alloc: Global, text: &str) -> Result<String, AllocError> {
-    match Value::from_str(alloc, text) {
-        Ok(value) => String::from_str(alloc, said(holds_i64_alone(&value))),
-        Err(_) => String::from_str(alloc, "no JSON"),
-    }
-}
-
-fn said(so: bool) -> &'static str {
-    if so { "yes" } else { "no" }
 }

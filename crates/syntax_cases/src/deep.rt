@@ -1,7 +1,8 @@
-//! Types that are nested deep, which a case gives by the piece that it repeats.
+//! Types and brackets that are nested deep, which a case gives by the piece that it repeats.
 use crate::reading::show_error;
 use crate::tokens::{PLACE, literal_value};
 use rust_syntax::{LitStr, ParseFault, parse_type};
+use rust_tokens::{TokenStream, lex, respan};
 use std::alloc::{AllocError, Global};
 
 fn push_copies(count: u32, piece: &str, out: &mut String) -> Result<(), AllocError> {
@@ -42,19 +43,50 @@ fn taken(alloc: Global, text: String) -> Result<String, AllocError> {
     Ok(out)
 }
 
-/// Whether the type of a case is taken, by what stands behind the case's word.
-pub(crate) fn deep_answer(alloc: Global, case: &str) -> Result<String, AllocError> {
+// How long the tokens' text is, and whether that of a copy is the same.
+fn measured(alloc: Global, stream: &TokenStream) -> Result<String, AllocError> {
+    let text = stream.text(alloc)?;
+    let copy = stream.try_clone(alloc)?;
+    let copied = respan(alloc, &copy, PLACE)?.text(alloc)?;
+    let length = text.len();
+    let same = if copied == text { "the same" } else { "other" };
+    format!(in alloc; "{length} long, copied {same}")
+}
+
+// What the tokens of a text are, or its fault.
+fn lexed(alloc: Global, text: &str) -> Result<String, AllocError> {
+    match lex(alloc, text, PLACE) {
+        Ok(stream) => measured(alloc, &stream),
+        Err(error) => format!(in alloc; "{error}"),
+    }
+}
+
+// The text that a case gives by how often to repeat and a literal.
+fn text_of(alloc: Global, case: &str) -> Result<Option<String>, AllocError> {
     let Some((digits, rest)) = case.split_once(' ') else {
-        return String::from_str(alloc, "no case");
+        return Ok(None);
     };
     let Ok(count) = digits.parse::<u32>() else {
-        return String::from_str(alloc, "no number");
+        return Ok(None);
     };
-    let Some(pattern) = literal_value(alloc, rest)? else {
-        return String::from_str(alloc, "no literal");
-    };
-    match repeated(alloc, count, &pattern)? {
+    match literal_value(alloc, rest)? {
+        Some(pattern) => repeated(alloc, count, &pattern),
+        None => Ok(None),
+    }
+}
+
+/// Whether the type of a case is taken, by what stands behind the case's word.
+pub(crate) fn deep_answer(alloc: Global, case: &str) -> Result<String, AllocError> {
+    match text_of(alloc, case)? {
         Some(text) => taken(alloc, text),
+        None => String::from_str(alloc, "no pattern"),
+    }
+}
+
+/// What the tokens of a case are, by what stands behind the case's word.
+pub(crate) fn brackets_answer(alloc: Global, case: &str) -> Result<String, AllocError> {
+    match text_of(alloc, case)? {
+        Some(text) => lexed(alloc, &text),
         None => String::from_str(alloc, "no pattern"),
     }
 }

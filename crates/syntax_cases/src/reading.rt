@@ -1,11 +1,13 @@
 //! What the text of a case is read as.
-use crate::deep::deep_answer;
+use crate::deep::{brackets_answer, deep_answer};
+use crate::metas::metas_text;
 use crate::show::{show_expr_path, show_lifetimes, show_path, show_predicates, show_ty};
 use crate::tokens::{PLACE, literal_value, printed, tokens_of};
 use rust_syntax::{
     LitStr, ParseFault, SyntaxError, SyntaxKind, parse_expr_path, parse_lifetimes, parse_path,
     parse_type, parse_where,
 };
+use rust_tokens::LexError;
 use std::alloc::{AllocError, Global};
 
 fn kind_name(kind: SyntaxKind) -> &'static str {
@@ -94,6 +96,8 @@ fn read(alloc: Global, word: &str, text: String) -> Result<String, AllocError> {
     match word {
         "tokens" => return tokens_of(alloc, &text),
         "text" => return printed(alloc, &text),
+        "metas" => return metas_text(alloc, &text),
+        "memory" => return format!(in alloc; "{}", LexError::Memory),
         _ => {}
     }
     let literal = LitStr {
@@ -116,8 +120,10 @@ pub(crate) fn answer(alloc: Global, line: &str) -> Result<String, AllocError> {
     let Some((word, rest)) = line.split_once(' ') else {
         return String::from_str(alloc, "no case");
     };
-    if word == "deep" {
-        return deep_answer(alloc, rest);
+    match word {
+        "deep" => return deep_answer(alloc, rest),
+        "brackets" => return brackets_answer(alloc, rest),
+        _ => {}
     }
     match literal_value(alloc, rest)? {
         Some(text) => read(alloc, word, text),

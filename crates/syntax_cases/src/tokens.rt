@@ -28,8 +28,8 @@ fn show_literal(lit: &Lit, out: &mut String) -> Result<(), AllocError> {
     }
 }
 
-// The tokens of a tree, down to so many groups.
-fn show_tree(tree: &TokenTree, depth: u8, out: &mut String) -> Result<(), AllocError> {
+/// The tokens of a tree, down to so many groups.
+pub(crate) fn show_tree(tree: &TokenTree, depth: u8, out: &mut String) -> Result<(), AllocError> {
     if !out.is_empty() {
         out.push(' ')?;
     }

@@ -1,5 +1,0 @@
-//! Tests of sources and sinks that are no table.
-#![tactic(auto)]
-
-#[cfg(test)]
-mod streams;
