@@ -4,8 +4,8 @@ use Rattle.syntax_trees.specs.Syntax.{ExprPathD}
 use Rattle.syntax_trees.specs.View.{expr_path_view}
 use Rattle.attr_parts.specs.declared.values.Identifier.{Identifier}
 use Rattle.attr_parts.specs.declared.values.Identifier.TheVariants as identifiers
-use Rattle.attr_parts.specs.declared.values.TagType.{TagType}
-use Rattle.attr_parts.specs.declared.values.TagType.TheVariants as tags
+use Rattle.tag_kinds.specs.declared.tag.TagType.{TagType}
+use Rattle.tag_kinds.specs.declared.tag.TagType.TheVariants as tags
 use Rattle.attr_parts.specs.declared.values.Default.{Default}
 use Rattle.attr_parts.specs.declared.values.Default.TheVariants as defaults
 

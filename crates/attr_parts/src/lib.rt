@@ -31,5 +31,6 @@ pub use symbol::{
     SKIP, SKIP_DESERIALIZING, SKIP_SERIALIZING, SKIP_SERIALIZING_IF, TAG, TRANSPARENT, TRY_FROM,
     UNTAGGED, VARIANT_IDENTIFIER, WITH,
 };
+pub use tag_kinds::TagType;
 pub use types::{Elem, is_cow, is_implicitly_borrowed, ungroup};
-pub use values::{Default, Identifier, TagType};
+pub use values::{Default, Identifier};

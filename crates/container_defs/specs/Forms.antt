@@ -12,7 +12,8 @@ use Rattle.attr_parts.specs.Values.{DefaultD, no_default, own_default, path_defa
 use Rattle.attr_parts.specs.declared.derive.Derive.{Derive}
 use Rattle.attr_defs.specs.Renames.{Meaning}
 use Rattle.attr_defs.specs.Texts.{Lexing}
-use Rattle.model_defs.specs.Types.{TypeModel, boolean_type, integer_type, text_type, native_type, any_type, unit_type, option_type, boxed_type, vec_type, set_type, map_type, tuple_type, array_type, item_type, outside_type, TypeModels, no_types, type_then, type_of}
+use Rattle.type_spellings.specs.Types.{type_of}
+use Rattle.model_defs.specs.Types.{TypeModel, boolean_type, integer_type, text_type, native_type, any_type, unit_type, option_type, boxed_type, vec_type, set_type, map_type, tuple_type, array_type, item_type, outside_type, TypeModels, no_types, type_then}
 use Rattle.model_defs.specs.Model.{RuleD, text_rule, allow_rule, deny_rule, ConstraintD, ConversionsD}
 use Rattle.container_defs.specs.declared.style.Style.{Style}
 use Rattle.container_defs.specs.declared.style.Style.TheVariants.{Struct, Tuple, Newtype, Unit as NoFields}

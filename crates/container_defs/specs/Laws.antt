@@ -9,7 +9,7 @@ use Rattle.attr_parts.specs.declared.derive.Derive.TheVariants.{Serialize, Deser
 use Rattle.attr_defs.specs.Container.{unraw}
 use Rattle.attr_defs.specs.Renames.{Meaning}
 use Rattle.attr_defs.specs.Texts.{Lexing}
-use Rattle.model_defs.specs.Types.{type_of}
+use Rattle.type_spellings.specs.Types.{type_of}
 use Rattle.model_defs.specs.Model.{struct_style, no_default, no_helper, FieldModel, struct_model, ContainerModel}
 use Rattle.container_defs.specs.Checks.{counts, is_one, mark_counting}
 use Rattle.container_defs.specs.Container.{ReadField}

@@ -10,7 +10,7 @@ use Rattle.attr_parts.specs.Values.{DefaultD, no_default, own_default, path_defa
 use Rattle.attr_defs.specs.Renames.{Meaning}
 use Rattle.attr_defs.specs.Texts.{Lexing}
 use Rattle.schema_defs.specs.Location.{place}
-use Rattle.model_defs.specs.Types.{type_of, spells, number_of}
+use Rattle.type_spellings.specs.Types.{type_of, spells, number_of}
 use Rattle.model_defs.specs.Model as model
 use Rattle.model_defs.specs.Model.{struct_style, tuple_style, newtype_style, unit_style, DefaultModel, stated_default, HelperModel, no_helper, some_helper, whole_helper, FieldModel, VariantModel, TagModel, external_tag, internal_tag, adjacent_tag, BodyModel, struct_model, enum_model, ContainerModel}
 use Rattle.container_defs.specs.declared.style.Style.{Style}

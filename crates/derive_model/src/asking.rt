@@ -3,7 +3,7 @@ ghost use Rattle.std.specs.Prelude.{◌≡◌};
 ghost use Rattle.syntax_trees.specs.View.{ty as ty_view};
 ghost use Rattle.conversion_table.specs.Conversions.{conversions_view};
 ghost use Rattle.container_defs.specs.Forms.{names_of, is_known};
-ghost use Rattle.model_defs.specs.Types.{type_of};
+ghost use Rattle.type_spellings.specs.Types.{type_of};
 ghost use Rattle.value_models.specs.ContainersView.{containers_in};
 ghost use Rattle.derive_model.specs.ModuleView.{items_in, models_in, conversions_in};
 

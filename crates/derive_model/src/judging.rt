@@ -1,7 +1,7 @@
 //! Values read, written and judged by a module.
 ghost use Rattle.std.specs.Prelude.{◌≡◌, ◌≤◌, true, IfOk, IfErr, IsErrOf};
 ghost use Rattle.schema_defs.specs.Faults.{Rises};
-ghost use Rattle.model_defs.specs.Types.{type_of};
+ghost use Rattle.type_spellings.specs.Types.{type_of};
 ghost use Rattle.reading_defs.specs.Proper.{has_json_numbers};
 ghost use Rattle.reading_defs.specs.Reading.{reading};
 ghost use Rattle.json_value.specs.View.{kept_view};

@@ -8,7 +8,8 @@ use Rattle.schema_defs.specs.Location.{place}
 use Rattle.schema_defs.specs.declared.Format.{Format}
 use Rattle.schema_defs.specs.declared.Format.TheVariants.{Uuid, Date, DateTime, Ip, Ipv4, Ipv6}
 use Rattle.syntax_trees.specs.Syntax.{TyD, ty_tuple, Tys, end_tys, more_tys}
-use Rattle.model_defs.specs.Types.{TypeModel, TypeModels, type_then, boxed_type, option_type, vec_type, set_type, map_type, native_type, integer_type, item_type, tuple_type, array_of, word_type, plain_path, path_of_one, path_of_two, named_type, types_given, utc_given, number_from, number_of, is_utc, type_of, no_types}
+use Rattle.type_spellings.specs.Types.{array_of, word_type, plain_path, path_of_one, path_of_two, named_type, types_given, utc_given, number_from, number_of, is_utc, type_of}
+use Rattle.model_defs.specs.Types.{TypeModel, TypeModels, type_then, boxed_type, option_type, vec_type, set_type, map_type, native_type, integer_type, item_type, tuple_type, no_types}
 use Rattle.entry_defs.specs.Entry.{IntegerName, i8, u8, i16, u16, i32, u32, i64, u64, nonzero_u8, nonzero_u16, nonzero_u32, nonzero_u64, Target, Entry, boolean_entry, integer_entry, text_entry, native_entry, any_entry, unit_entry, option_entry, vec_entry, set_entry, map_entry, tuple_entry, array_entry, reference, item, Entries, no_entries, entry_then, entry_again}
 use Rattle.entry_defs.specs.Layer.{integer_range}
 use Rattle.emit_defs.specs.Models.{unboxed, used, type_again, type_model, type_models}

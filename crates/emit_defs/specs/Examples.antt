@@ -9,7 +9,8 @@ use Rattle.json_value.specs.Value as value
 use Rattle.json_value.specs.Value.{Value, null, text}
 use Rattle.schema_defs.specs.declared.Format.TheVariants.{Uuid}
 use Rattle.model_defs.specs.Model.{external_tag, internal_tag, adjacent_tag, untagged, RuleD, text_rule, ConstraintD, FieldModel, BodyModel, struct_model, enum_model}
-use Rattle.model_defs.specs.Types.{TypeModel, type_of}
+use Rattle.type_spellings.specs.Types.{type_of}
+use Rattle.model_defs.specs.Types.{TypeModel}
 use Rattle.entry_defs.specs.Entry.{u8, u32, i64, definition, required, optional, stated, Entry, boolean_entry, integer_entry, text_entry, native_entry, unit_entry, option_entry, vec_entry, set_entry, array_entry, reference, item, Shape, struct_shape, enum_shape, newtype_shape, field_then, field_again, rest_field, no_entries, entry_then, entry_again, tuple_entry, unit_contents, newtype_contents, tuple_contents, struct_contents, FieldEntry, entries, fields, fields_then, variants}
 use Rattle.entry_defs.specs.Table.{TargetEntry, Table, root_of}
 use Rattle.emit_defs.specs.Emission.{emission, models_of, type_outside}

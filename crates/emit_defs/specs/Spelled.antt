@@ -1,6 +1,7 @@
 -- Types as trees spell the types that are meant.
 use Rattle.std.specs.Prelude.{◌≡◌, ◌<◌, ◌^◌, ℕ, List, Bool, ⊤}
-use Rattle.model_defs.specs.Types.{word_type, item_type, type_of}
+use Rattle.type_spellings.specs.Types.{word_type, type_of}
+use Rattle.model_defs.specs.Types.{item_type}
 use Rattle.entry_defs.specs.Entry.{Target, Entry, option_entry, vec_entry, set_entry, map_entry, tuple_entry, array_entry, reference, item, Entries, no_entries, entry_then, entry_again}
 use Rattle.emit_defs.specs.Models.{type_model}
 use Rattle.emit_defs.specs.Trees.{entry_ty}

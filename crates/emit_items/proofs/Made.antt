@@ -6,8 +6,8 @@ use Rattle.syntax_trees.specs.Syntax.{TyD}
 use Rattle.syntax_trees.specs.Item.{FieldD, VariantD, ItemD, named_fields, unnamed_fields, struct_body, enum_body}
 use Rattle.syntax_printing.specs.Print.{print_ty}
 use Rattle.model_defs.specs.Model.{RuleD, external_tag}
-use Rattle.attr_parts.specs.declared.values.TagType.{TagType}
-use Rattle.attr_parts.specs.declared.values.TagType.TheVariants as tags
+use Rattle.tag_kinds.specs.declared.tag.TagType.{TagType}
+use Rattle.tag_kinds.specs.declared.tag.TagType.TheVariants as tags
 use Rattle.entry_defs.specs.Space.{Id, FieldAt, RestAt, VariantAt, Space, struct_shape_at, enum_shape_at, newtype_shape_at}
 use Rattle.conversion_table.specs.declared.conversions.Rule.{Rule}
 use Rattle.schema_tree.specs.Conversions.{rule_view}

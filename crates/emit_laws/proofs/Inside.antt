@@ -8,7 +8,8 @@ use Rattle.container_defs.specs.Checks.{variants_in}
 use Rattle.container_defs.specs.Container.{ReadField, ReadVariant, all_fields}
 use Rattle.container_defs.specs.Forms.{is_known, are_known, is_option, empties, holds, fails, is_own, is_known_reader, is_known_condition}
 use Rattle.container_defs.specs.Reader.{reads_some, reads_whole}
-use Rattle.model_defs.specs.Types.{TypeModel, type_of}
+use Rattle.type_spellings.specs.Types.{type_of}
+use Rattle.model_defs.specs.Types.{TypeModel}
 use Rattle.model_defs.specs.Model.{ConversionsD}
 use Rattle.entry_defs.specs.Entry.{State, required, optional, stated, Entry, option_entry, vec_entry, set_entry, map_entry, Entries, Rest, no_rest, rest, Fields, Shape, struct_shape, enum_shape, newtype_shape, Contents, unit_contents, newtype_contents, tuple_contents, struct_contents, Variants, no_variants, variant_then, FieldEntry, VariantEntry, fields_of, rest_of, variants_of}
 use Rattle.entry_defs.specs.Table.{Table, items_of}

@@ -10,7 +10,7 @@ use Rattle.container_defs.specs.Container.{ReadField, ReadVariant, ReadContainer
 use Rattle.container_defs.specs.Forms as forms
 use Rattle.container_defs.specs.Forms.{is_known, is_text, is_text_map, fails, is_known_reader, is_known_condition, has_odd_emptiness, has_extras, has_odd_some, has_odd_whole, is_odd_rest, repeats_name, is_unread, has_unread, field_type, is_stated_elsewhere, is_text_rule, same_type, is_outside}
 use Rattle.container_defs.specs.Reader.{has_name}
-use Rattle.model_defs.specs.Types.{type_of}
+use Rattle.type_spellings.specs.Types.{type_of}
 use Rattle.model_defs.specs.Model as model
 use Rattle.model_defs.specs.Model.{text_rule, allow_rule, deny_rule, ConstraintD, ConversionsD, external_tag, internal_tag, adjacent_tag}
 use Rattle.entry_defs.specs.Entry.{Entry, text_entry, rest, Shape, struct_shape, enum_shape, newtype_shape, FieldEntry, VariantEntry, fields_of, rest_of, variants_of}

@@ -12,7 +12,8 @@ use Rattle.container_defs.specs.Forms.{is_known, are_known}
 use Rattle.container_defs.specs.Reader as reader
 use Rattle.container_defs.specs.Reader.{written_so, default_at, default_model, helper_of, field_model, style_model, tag_model, body_model, reader_model}
 use Rattle.schema_defs.specs.Location.{place}
-use Rattle.model_defs.specs.Types.{TypeModel, TypeModels, no_types, type_then, types_of, type_of, option_type, boxed_type, item_type, map_type, text_type}
+use Rattle.type_spellings.specs.Types.{type_of}
+use Rattle.model_defs.specs.Types.{TypeModel, TypeModels, no_types, type_then, types_of, option_type, boxed_type, item_type, map_type, text_type}
 use Rattle.model_defs.specs.Model as model
 use Rattle.model_defs.specs.Model.{struct_style, newtype_style, external_tag, internal_tag, adjacent_tag, TagModel, FieldModel, struct_model, enum_model}
 use Rattle.model_defs.proofs.Rising.{bytes_itself}

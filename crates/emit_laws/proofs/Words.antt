@@ -7,7 +7,7 @@ use Rattle.std.proofs.lemmas.Slice.Eq.{bytes_eq-Decides}
 use Rattle.unicode_ident.specs.Ident.{is_xid_start, is_xid_continue}
 use Rattle.unicode_ident.proofs.IdentLemmas.{is_xid_continue-ascii}
 use Rattle.attr_defs.specs.Container.{unraw}
-use Rattle.model_defs.specs.Types.{word_type}
+use Rattle.type_spellings.specs.Types.{word_type}
 use Rattle.model_defs.proofs.Flat.{and_first, and_second}
 use Rattle.naming_defs.specs.Good.{spells_identifier, primitive_types, is_one_of, is_good_name}
 use Rattle.naming_defs.proofs.Good.{known}

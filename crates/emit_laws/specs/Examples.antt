@@ -12,7 +12,7 @@ use Rattle.container_defs.specs.Told.{itself, always_z, private}
 use Rattle.container_defs.specs.Written.{words}
 use Rattle.json_value.specs.Value.{Value}
 use Rattle.schema_defs.specs.Build.{◌≔◌, str, obj, arr, sample}
-use Rattle.model_defs.specs.Types.{type_of}
+use Rattle.type_spellings.specs.Types.{type_of}
 use Rattle.model_defs.specs.Reads.{reads}
 use Rattle.entry_defs.specs.Table.{Table, root_of}
 use Rattle.emit_defs.specs.Formed.{IsEmittable}

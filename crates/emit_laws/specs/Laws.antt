@@ -10,7 +10,7 @@ use Rattle.attr_defs.specs.Texts.{lexed}
 use Rattle.container_defs.specs.Model.{diagnostics_of}
 use Rattle.container_defs.specs.Reader.{item_models}
 use Rattle.container_defs.specs.Forms.{is_known, names_of, are_inside}
-use Rattle.model_defs.specs.Types.{type_of}
+use Rattle.type_spellings.specs.Types.{type_of}
 use Rattle.model_defs.specs.Reads.{reads}
 use Rattle.entry_defs.specs.Entry.{Entry}
 use Rattle.entry_defs.specs.Table.{Table}

@@ -5,7 +5,8 @@ use Rattle.token_trees.specs.declared.token.Span.{Span}
 use Rattle.syntax_trees.specs.Syntax.{TyD, ty_array, ty_tuple, ty_path, PathD, path, SegmentD, segment, ArgumentsD, no_arguments, angle, parens, GenericD, arg_ty, ExprD, ex_fixed, no_qself, Tys, end_tys, more_tys, Segments, end_segments, more_segments, Generics, end_generics, more_generics, has_no_arguments, segment_name}
 use Rattle.token_trees.specs.Token.{digits}
 use Rattle.syntax_parsers.specs.SpellingAside.{ty_at, tys_at, path_at, segments_at, segment_at, arguments_at, generics_at, generic_at, expr_at}
-use Rattle.model_defs.specs.Types.{three, TypeModel, TypeModels, outside_type, no_types, type_then, Arguments, none_given, utc_given, others_given, Segment, spells, is_utc, is_utc_alone, given, path_type, literal_number, array_of, tuple_of, and_then, type_of}
+use Rattle.type_spellings.specs.Types.{three, Arguments, none_given, utc_given, others_given, Segment, spells, is_utc, is_utc_alone, given, path_type, literal_number, array_of, tuple_of, and_then, type_of}
+use Rattle.model_defs.specs.Types.{TypeModel, TypeModels, outside_type, no_types, type_then}
 
 -- the type that a tree spells, with its parts by name
 abbrev mutual

@@ -34,7 +34,7 @@ use Rattle.syntax_laws.proofs.Printed.{IsSpelledAside, spelled_again}
 use Rattle.printing_laws.specs.Parts.{NameParts, TyParts, TysParts, ArgumentsParts, SegmentsParts}
 use Rattle.printing_laws.proofs.PrintedParts.{printings_are_of_text}
 use Rattle.attr_defs.proofs.Lexed.{read_same}
-use Rattle.model_defs.specs.Types as types
+use Rattle.type_spellings.specs.Types as types
 use Rattle.model_defs.proofs.Flat.{not_true}
 use Rattle.entry_defs.specs.Entry.{IntegerName, i8, u8, i16, u16, i32, u32, i64, u64, nonzero_u8, nonzero_u16, nonzero_u32, nonzero_u64, Target, Entry, boolean_entry, integer_entry, text_entry, native_entry, any_entry, unit_entry, option_entry, vec_entry, set_entry, map_entry, tuple_entry, array_entry, reference, item, Entries, no_entries, entry_then, entry_again}
 use Rattle.naming_defs.specs.Good.{spells_identifier, keywords, is_one_of, is_good_name}

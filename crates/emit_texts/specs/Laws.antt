@@ -8,7 +8,7 @@ use Rattle.syntax_parsers.specs.Whole as whole
 use Rattle.syntax_parsers.specs.Whole.{expr_path_of}
 use Rattle.attr_defs.specs.Texts.{lexed, read_text}
 use Rattle.schema_defs.specs.Location.{place}
-use Rattle.model_defs.specs.Types as types
+use Rattle.type_spellings.specs.Types as types
 use Rattle.entry_defs.specs.Entry.{Target, Entry, option_entry, vec_entry, set_entry, map_entry, tuple_entry, array_entry, reference, item, Entries, no_entries, entry_then, entry_again}
 use Rattle.naming_defs.specs.Good.{is_good_name}
 use Rattle.emit_defs.specs.Models.{Empty, empty_option, empty_vec, empty_set, empty_map}

@@ -3,8 +3,8 @@ use Rattle.std.specs.Prelude.{ℕ, List, [], ◌∷◌, ◌++◌, Bool, Option, 
 use Rattle.syntax_trees.specs.Syntax.{TyD}
 use Rattle.syntax_trees.specs.Item.{FieldD, FieldsD, VariantD, BodyD, ItemD}
 use Rattle.model_defs.specs.Model.{TagModel, external_tag, internal_tag, adjacent_tag, untagged}
-use Rattle.attr_parts.specs.declared.values.TagType.{TagType}
-use Rattle.attr_parts.specs.declared.values.TagType.TheVariants as tags
+use Rattle.tag_kinds.specs.declared.tag.TagType.{TagType}
+use Rattle.tag_kinds.specs.declared.tag.TagType.TheVariants as tags
 use Rattle.emit_defs.specs.Models.{Manner}
 use Rattle.emit_defs.specs.Trees.{Carried, flag, valued, name_at, serde, when, rename_metas, manner_metas, manner_ty, tag_metas, map_ty, text_ty}
 

@@ -1,7 +1,7 @@
 -- The entries of the program, as entries whose parts are ids.
 use Rattle.std.specs.Prelude.{ℕ, List, map, reverse, Option, option_map, codes, string_bytes}
-use Rattle.attr_parts.specs.declared.values.TagType.{TagType}
-use Rattle.attr_parts.specs.declared.values.TagType.TheVariants as tags
+use Rattle.tag_kinds.specs.declared.tag.TagType.{TagType}
+use Rattle.tag_kinds.specs.declared.tag.TagType.TheVariants as tags
 use Rattle.json_value.specs.View.{kept_view}
 use Rattle.conversion_table.specs.Conversions.{rule_view}
 use Rattle.model_defs.specs.Model.{TagModel, external_tag, internal_tag, adjacent_tag, untagged}

@@ -1,8 +1,8 @@
 //! Items: structs, enums and newtypes.
 use crate::entry::TypeId;
-use attr_parts::TagType;
 use conversion_table::Rule;
 use serde_json::Value;
+use tag_kinds::TagType;
 
 /// An item. No other item of its space has its name.
 #[derive(Drop)]

@@ -13,7 +13,7 @@ use Rattle.attr_defs.specs.Renames.{Meaning}
 use Rattle.attr_defs.specs.Texts.{lexed}
 use Rattle.container_defs.specs.Reader.{item_models}
 use Rattle.model_defs.specs.Reads.{reads}
-use Rattle.model_defs.specs.Types.{type_of}
+use Rattle.type_spellings.specs.Types.{type_of}
 use Rattle.entry_defs.specs.Entry.{Target, Entry, item}
 use Rattle.entry_defs.specs.Space.{Id, EntryAt, Holds, entry_at as at_id}
 use Rattle.entry_defs.specs.Table.{ItemEntry, Table, target_item}

@@ -3,7 +3,8 @@ use Rattle.std.specs.Prelude.{ℕ, ◌&&◌, List, filter, Bool, false, not, Opt
 use Rattle.std.specs.List.{list_any}
 use Rattle.syntax_trees.specs.Syntax.{ExprPathD, TyD}
 use Rattle.attr_parts.specs.Values.{DefaultD, no_default, own_default, path_default}
-use Rattle.model_defs.specs.Types.{TypeModel, outside_type, type_of}
+use Rattle.type_spellings.specs.Types.{type_of}
+use Rattle.model_defs.specs.Types.{TypeModel, outside_type}
 use Rattle.model_defs.specs.Model.{ConstraintD, ConversionsD}
 use Rattle.container_defs.specs.Checks.{is_one}
 use Rattle.container_defs.specs.Container.{ReadField, ReadContainer}

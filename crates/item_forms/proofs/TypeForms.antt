@@ -1,7 +1,8 @@
 -- Types by their forms.
 use Rattle.std.proofs.Common.{◌≡◌, ℕ, List, Bool, true, false, Option, Some, None, refl, sym, ap, ◌∙◌}
 use Rattle.syntax_trees.specs.Syntax.{ExprPathD}
-use Rattle.model_defs.specs.Types.{TypeModel, boolean_type, integer_type, text_type, native_type, any_type, unit_type, option_type, boxed_type, vec_type, set_type, map_type, tuple_type, array_type, item_type, outside_type, TypeModels, no_types, type_then, tuple_of, array_of}
+use Rattle.type_spellings.specs.Types.{tuple_of, array_of}
+use Rattle.model_defs.specs.Types.{TypeModel, boolean_type, integer_type, text_type, native_type, any_type, unit_type, option_type, boxed_type, vec_type, set_type, map_type, tuple_type, array_type, item_type, outside_type, TypeModels, no_types, type_then}
 use Rattle.value_types.specs.declared.rows.Plain.{Plain}
 use Rattle.value_types.specs.declared.rows.Plain.TheVariants.{Boolean, Whole, Signed, Text as PlainText, Native, Any}
 use Rattle.value_types.specs.declared.rows.Holder.{Holder}

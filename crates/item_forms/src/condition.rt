@@ -1,7 +1,7 @@
 //! Conditions under which a field isn't written.
 ghost use Rattle.std.specs.Prelude.{◌≡◌, option_map};
 ghost use Rattle.syntax_trees.specs.View.{ty as ty_view, expr_path_view};
-ghost use Rattle.model_defs.specs.Types.{type_of};
+ghost use Rattle.type_spellings.specs.Types.{type_of};
 ghost use Rattle.container_defs.specs.Forms.{option_is_none, vec_is_empty, set_is_empty, map_is_empty, empties, is_known_reader, is_known_condition};
 ghost use Rattle.item_forms.specs.TypeForm.{empties_form};
 

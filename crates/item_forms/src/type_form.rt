@@ -1,7 +1,7 @@
 //! What a type is to the forms of fields.
 ghost use Rattle.std.specs.Prelude.{◌≡◌, option_map};
 ghost use Rattle.syntax_trees.specs.View.{ty as ty_view};
-ghost use Rattle.model_defs.specs.Types.{type_of};
+ghost use Rattle.type_spellings.specs.Types.{type_of};
 ghost use Rattle.value_types.specs.RowView.{plain_view, held};
 ghost use Rattle.value_types.specs.ShapeView.{type_in};
 ghost use Rattle.container_defs.specs.Forms.{is_option, is_text, is_text_map};

@@ -6,7 +6,7 @@ use Rattle.std.proofs.lemmas.Bool.{and_parts, leb-true}
 use Rattle.std.proofs.lemmas.Int.Digits.{digits_of_step, first_digits_of}
 use Rattle.std.proofs.lemmas.List.{map-append}
 use Rattle.schema_defs.specs.Location.{place}
-use Rattle.model_defs.specs.Types.{number_from, number_of}
+use Rattle.type_spellings.specs.Types.{number_from, number_of}
 
 abbrev digits : ℕ → List ℕ
 digits n = map (λ d. 48 + d) (digits_of 10 n)

@@ -6,7 +6,7 @@ use Rattle.syntax_trees.specs.declared.tree.QSelf.{QSelf}
 use Rattle.syntax_trees.specs.declared.tree.Path.{Path, out-Path}
 use Rattle.syntax_trees.specs.declared.tree.ExprPath.{ExprPath, out-ExprPath}
 use Rattle.syntax_trees.proofs.Views.{path_out, expr_path_out}
-use Rattle.model_defs.specs.Types.{spells}
+use Rattle.type_spellings.specs.Types.{spells}
 use Rattle.container_defs.specs.Reader.{is_local, is_rooted}
 
 abbrev pub leading_of : ExprPath → Bool

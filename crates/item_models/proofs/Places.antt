@@ -10,7 +10,7 @@ use Rattle.syntax_trees.specs.Syntax.{SegmentD, expr_path, path, Segments, segme
 use Rattle.syntax_trees.specs.View.{expr_path_view, maybe_qself_view}
 use Rattle.syntax_trees.specs.declared.tree.QSelf.{QSelf}
 use Rattle.syntax_trees.specs.declared.tree.ExprPath.{ExprPath, out-ExprPath}
-use Rattle.model_defs.specs.Types.{number_of}
+use Rattle.type_spellings.specs.Types.{number_of}
 use Rattle.value_types.specs.Large.{IsTooLarge}
 use Rattle.container_defs.specs.Reader.{default_place, place_in, place_named, written_so}
 use Rattle.item_models.specs.PlaceView.{IsPast}

@@ -6,7 +6,7 @@ ghost use Rattle.syntax_trees.specs.View.{expr_path_view, segment_view};
 ghost use Rattle.attr_parts.specs.Values as attrs;
 ghost use Rattle.container_defs.specs.Reader.{default_place, default_model, default_at, place_in, place_named, written_so};
 ghost use Rattle.value_models.specs.FieldView.{default_view};
-ghost use Rattle.model_defs.specs.Types.{number_of};
+ghost use Rattle.type_spellings.specs.Types.{number_of};
 ghost use Rattle.value_types.specs.Large.{IsTooLarge};
 ghost use Rattle.item_models.specs.Places.{placed};
 ghost use Rattle.item_models.specs.PlaceView.{IsPlace};

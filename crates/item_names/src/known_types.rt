@@ -2,7 +2,8 @@
 ghost use Rattle.std.specs.Prelude.{◌≡◌, map};
 ghost use Rattle.syntax_trees.specs.Item.{item_view};
 ghost use Rattle.syntax_trees.specs.View.{ty as ty_view};
-ghost use Rattle.model_defs.specs.Types.{type_of, types};
+ghost use Rattle.type_spellings.specs.Types.{type_of};
+ghost use Rattle.model_defs.specs.Types.{types};
 ghost use Rattle.value_types.specs.ShapeView.{types_in};
 ghost use Rattle.container_defs.specs.Forms.{names_of, is_known, are_known};
 

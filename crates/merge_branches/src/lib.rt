@@ -3,7 +3,6 @@
 
 mod alone;
 mod branch;
-pub mod examples;
 mod fate;
 mod joint;
 mod kept;

@@ -4,7 +4,6 @@
 mod apart;
 mod calls;
 mod cycle;
-pub mod examples;
 mod how;
 mod outside;
 

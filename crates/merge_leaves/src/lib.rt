@@ -3,7 +3,6 @@
 #![tactic(auto)]
 
 mod bounds;
-pub mod examples;
 mod formats;
 mod kept;
 mod lists;

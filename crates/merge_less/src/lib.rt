@@ -3,7 +3,6 @@
 
 mod entries;
 mod exact;
-pub mod examples;
 mod left;
 mod meeting;
 mod parts;

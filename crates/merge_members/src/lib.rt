@@ -2,7 +2,6 @@
 #![tactic(auto)]
 
 mod entries;
-pub mod examples;
 mod gathered;
 mod lookups;
 mod made;

@@ -1,7 +1,6 @@
 //! What all merging code is made of: notes, what ends a merge, and how a step's notes and answer are its definition's outcome.
 #![tactic(auto)]
 
-pub mod examples;
 mod fault;
 mod notes;
 

@@ -2,7 +2,6 @@
 #![tactic(auto)]
 
 mod body;
-pub mod examples;
 mod leaves;
 mod met;
 mod opening;

@@ -2,7 +2,6 @@
 #![tactic(auto)]
 
 mod ends;
-pub mod examples;
 mod stop;
 
 pub use ends::{answered, found, or_never};

@@ -10,7 +10,7 @@ use Rattle.attr_parts.specs.declared.derive.Derive.{Derive}
 use Rattle.attr_defs.specs.Renames.{Meaning}
 use Rattle.attr_defs.specs.Texts.{lexed}
 use Rattle.container_defs.specs.Reader.{item_models}
-use Rattle.model_defs.specs.Types.{type_of}
+use Rattle.type_spellings.specs.Types.{type_of}
 use Rattle.model_defs.specs.Reads.{reads}
 use Rattle.entry_defs.specs.Table.{Table, root_of}
 use Rattle.entry_defs.specs.Takes.{takes}

@@ -13,4 +13,3 @@ pub mod Examples
 pub mod ReachExamples
 pub mod RefusalExamples
 pub mod SettledExamples
-pub mod Spellings

@@ -1,10 +1,9 @@
-//! Worked examples of reading, of refusals, of settled values and of spellings: each group is the contract of a function that does nothing.
+//! Worked examples of reading, of refusals and of settled values: each group is the contract of a function that does nothing.
 
 ghost use Rattle.model_defs.specs.Examples.{BuiltInTypes, Structs, MissingFields, Enums, Rules, Items};
 ghost use Rattle.model_defs.specs.ReachExamples.{Reaching};
 ghost use Rattle.model_defs.specs.RefusalExamples.{PlacesOfRefusal};
 ghost use Rattle.model_defs.specs.SettledExamples.{SettledParts, SettledStructs, SettledEnums};
-ghost use Rattle.model_defs.specs.Spellings.{Spellings};
 
 /// Values of the built-in types.
 pub fn built_in_types()
@@ -49,11 +48,6 @@ pub fn settled_structs()
 /// What enums settle values to.
 pub fn settled_enums()
     ensures { SettledEnums }
-{}
-
-/// What types are spelled.
-pub fn spellings()
-    ensures { Spellings }
 {}
 
 /// Where reading stops.

@@ -2,7 +2,6 @@
 #![tactic(auto)]
 
 mod calls;
-pub mod examples;
 mod faults;
 mod likeness;
 mod ordering;

@@ -9,7 +9,7 @@ use Rattle.schema_defs.specs.Texts.{Relations, IsLawful}
 use Rattle.schema_defs.specs.Schema.{Document}
 use Rattle.attr_defs.specs.Texts.{lexed}
 use Rattle.container_defs.specs.Model.{diagnostics_of}
-use Rattle.model_defs.specs.Types.{type_of}
+use Rattle.type_spellings.specs.Types.{type_of}
 use Rattle.model_defs.specs.Model.{ContainerModel}
 use Rattle.model_defs.specs.Reach.{NoneReachesItself}
 use Rattle.model_defs.specs.Reads.{reads}

@@ -18,7 +18,8 @@ use Rattle.attr_defs.specs.Renames.{Meaning}
 use Rattle.attr_defs.specs.Texts.{lexed}
 use Rattle.container_defs.specs.Model.{diagnostics_of}
 use Rattle.container_defs.specs.Reader.{item_models}
-use Rattle.model_defs.specs.Types.{TypeModel, type_of}
+use Rattle.type_spellings.specs.Types.{type_of}
+use Rattle.model_defs.specs.Types.{TypeModel}
 use Rattle.model_defs.specs.Model.{ContainerModel}
 use Rattle.model_defs.specs.Reads.{reads}
 use Rattle.model_defs.specs.Refusals.{refused_at}

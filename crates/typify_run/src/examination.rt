@@ -4,7 +4,7 @@ ghost use Rattle.syntax_trees.specs.Item.{item_view};
 ghost use Rattle.syntax_trees.specs.View.{ty};
 ghost use Rattle.serde_json.specs.View.{view};
 ghost use Rattle.json_value.specs.View.{value_of};
-ghost use Rattle.model_defs.specs.Types.{type_of};
+ghost use Rattle.type_spellings.specs.Types.{type_of};
 ghost use Rattle.schema_tree.specs.Conversions.{conversions_view};
 ghost use Rattle.schema_tree.specs.Document.{IsAccepted, view as document_seen};
 ghost use Rattle.schema_tree.specs.Fault.{fault_view};

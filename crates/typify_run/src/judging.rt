@@ -3,7 +3,7 @@ ghost use Rattle.std.specs.Prelude.{◌≡◌, ◌≤◌, ◌++◌, ◌∷◌, [
 ghost use Rattle.syntax_trees.specs.View.{ty};
 ghost use Rattle.serde_json.specs.View.{view};
 ghost use Rattle.json_value.specs.View.{value_of};
-ghost use Rattle.model_defs.specs.Types.{type_of};
+ghost use Rattle.type_spellings.specs.Types.{type_of};
 ghost use Rattle.schema_tree.specs.Fault.{fault_view, memory};
 ghost use Rattle.schema_tree.specs.Numbers.{holds_i64_alone, are_i64};
 ghost use Rattle.std.specs.List.{list_all};

@@ -5,7 +5,8 @@ use Rattle.syntax_trees.specs.Syntax.{TyD, tys_of, GenericD, arg_lifetime, arg_t
 use Rattle.syntax_trees.specs.View.{ty, generic_view}
 use Rattle.syntax_trees.specs.declared.tree.Ty.{Ty}
 use Rattle.syntax_trees.specs.declared.tree.GenericArgument.{GenericArgument}
-use Rattle.model_defs.specs.Types.{TypeModel, types, type_then, type_of, tuple_of, Arguments, utc_given, others_given, is_utc_alone, given, and_then}
+use Rattle.type_spellings.specs.Types.{type_of, tuple_of, Arguments, utc_given, others_given, is_utc_alone, given, and_then}
+use Rattle.model_defs.specs.Types.{TypeModel, types, type_then}
 use Rattle.value_types.specs.Levels as levels
 use Rattle.value_types.specs.Levels.{generic_model, generic_models, arguments_model, tuple_models}
 use Rattle.value_types.specs.ShapeView.{type_in, types_in, few, two_given}

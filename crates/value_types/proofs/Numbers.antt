@@ -4,7 +4,7 @@ use Rattle.std.specs.Prelude.{if◌then◌else◌}
 use Rattle.std.specs.List.{list_all}
 use Rattle.std.specs.Char.{is_ascii_digit}
 use Rattle.value_types.specs.Large.{IsTooLarge}
-use Rattle.model_defs.specs.Types.{number_from, number_of}
+use Rattle.type_spellings.specs.Types.{number_from, number_of}
 
 pub digits_from : (n : ℕ) (cs : List ℕ) → is_some (number_from n cs) ≡ list_all is_ascii_digit cs
 digits_from n [] = refl

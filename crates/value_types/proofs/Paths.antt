@@ -5,7 +5,8 @@ use Rattle.std.specs.List.{list_all}
 use Rattle.syntax_trees.specs.Syntax.{SegmentD, segment, no_arguments, angle, parens, segments_of, has_no_arguments, segment_name}
 use Rattle.syntax_trees.specs.View.{segment_view}
 use Rattle.syntax_trees.specs.declared.tree.PathSegment.{PathSegment}
-use Rattle.model_defs.specs.Types.{TypeModel, outside_type, spells, same_names, Arguments, none_given, utc_given, types_given, others_given, Segment, last_arguments, path_type, named_type, word_type, given, is_utc_alone}
+use Rattle.type_spellings.specs.Types.{spells, same_names, Arguments, none_given, utc_given, types_given, others_given, Segment, last_arguments, path_type, named_type, word_type, given, is_utc_alone}
+use Rattle.model_defs.specs.Types.{TypeModel, outside_type}
 use Rattle.value_types.specs.Levels.{segment_model, segment_models, generic_models}
 use Rattle.value_types.specs.Paths.{is_bare, names_of}
 use Rattle.value_types.specs.ShapeView.{few, few_of, word_or_item}

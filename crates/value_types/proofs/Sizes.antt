@@ -1,7 +1,8 @@
 -- How many types a type holds: a measure for what goes down a type.
 use Rattle.std.proofs.Common.{◌≡◌, ℕ, zero, suc, ◌+◌, ◌<◌, List, [], ◌∷◌, length, get_or, ap, arith}
 use Rattle.syntax_trees.specs.declared.tree.Ty.{Ty}
-use Rattle.model_defs.specs.Types.{TypeModel, option_type, boxed_type, vec_type, set_type, map_type, tuple_type, array_type, TypeModels, no_types, type_then, types, tuple_of}
+use Rattle.type_spellings.specs.Types.{tuple_of}
+use Rattle.model_defs.specs.Types.{TypeModel, option_type, boxed_type, vec_type, set_type, map_type, tuple_type, array_type, TypeModels, no_types, type_then, types}
 use Rattle.value_types.specs.declared.rows.Holder.{Holder}
 use Rattle.value_types.specs.declared.rows.Holder.TheVariants as holders
 use Rattle.value_types.specs.RowView.{held}

@@ -1,7 +1,8 @@
 -- The tables of built-in types say what the reader's types say.
 use Rattle.std.proofs.Common.{◌≡◌, ℕ, ◌&&◌, List, [], ◌∷◌, map, true, false, Option, Some, None, refl}
 use Rattle.std.specs.Prelude.{bytes_eq, codes, if◌then◌else◌}
-use Rattle.model_defs.specs.Types.{TypeModel, item_type, same_names, word_type, plain_path, path_of_one}
+use Rattle.type_spellings.specs.Types.{same_names, word_type, plain_path, path_of_one}
+use Rattle.model_defs.specs.Types.{TypeModel, item_type}
 use Rattle.value_types.specs.declared.rows.Plain.{Plain}
 use Rattle.value_types.specs.declared.rows.Plain.TheVariants.{Boolean, Whole, Signed}
 use Rattle.value_types.specs.declared.rows.Meaning.{Meaning}

@@ -5,7 +5,8 @@ use Rattle.syntax_trees.specs.View.{ty, bound_step, expr_step, generic_step, arg
 use Rattle.syntax_trees.specs.declared.tree.Bound.TheOpen.{Ty-F}
 use Rattle.syntax_trees.specs.declared.tree.Ty.{Ty, fold-roll-Ty}
 use Rattle.syntax_trees.specs.declared.tree.Ty.TheVariants as tys
-use Rattle.model_defs.specs.Types.{TypeModel, tuple_type, tuple_of, types, type_of}
+use Rattle.type_spellings.specs.Types.{tuple_of, type_of}
+use Rattle.model_defs.specs.Types.{TypeModel, tuple_type, types}
 use Rattle.value_types.specs.ShapeView.{types_in}
 use Rattle.value_types.proofs.Arguments.{tuple_parts}
 use Rattle.value_models.specs.TypeView.{type_view, types_view, type_step}

@@ -1,7 +1,8 @@
 -- The type that a syntax tree spells, each level by its name: the clauses of `type_of` in model_defs, which names only the whole.
 use Rattle.std.specs.Prelude.{List, [], ◌∷◌, true, false, Option, Some, None, if◌then◌else◌}
 use Rattle.syntax_trees.specs.Syntax.{TyD, ty_array, ty_tuple, ty_path, PathD, path, SegmentD, segment, ArgumentsD, no_arguments, angle, parens, GenericD, arg_ty, no_qself, Tys, end_tys, more_tys, Segments, end_segments, more_segments, Generics, end_generics, more_generics}
-use Rattle.model_defs.specs.Types.{TypeModel, outside_type, TypeModels, no_types, type_then, Arguments, none_given, others_given, utc_given, given, is_utc_alone, Segment, path_type, tuple_of, array_of, literal_number, and_then}
+use Rattle.type_spellings.specs.Types.{Arguments, none_given, others_given, utc_given, given, is_utc_alone, Segment, path_type, tuple_of, array_of, literal_number, and_then}
+use Rattle.model_defs.specs.Types.{TypeModel, outside_type, TypeModels, no_types, type_then}
 
 -- the type that a syntax tree spells
 abbrev mutual

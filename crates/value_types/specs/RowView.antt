@@ -1,7 +1,8 @@
 -- What the program's tables of built-in types stand for.
 use Rattle.std.specs.Prelude.{ℕ, List, [], ◌∷◌, Option, Some, None, codes, if◌then◌else◌}
 use Rattle.schema_defs.specs.declared.Format.TheVariants.{Uuid, Date, Ip, Ipv4, Ipv6}
-use Rattle.model_defs.specs.Types.{TypeModel, boolean_type, text_type, native_type, any_type, option_type, boxed_type, vec_type, set_type, outside_type, from_to, below_to, same_names, in_std, three}
+use Rattle.type_spellings.specs.Types.{same_names, in_std, three}
+use Rattle.model_defs.specs.Types.{TypeModel, boolean_type, text_type, native_type, any_type, option_type, boxed_type, vec_type, set_type, outside_type, from_to, below_to}
 use Rattle.value_types.specs.Paths.{symbols}
 use Rattle.value_types.specs.declared.rows.Plain.{Plain}
 use Rattle.value_types.specs.declared.rows.Plain.TheVariants.{Boolean, Whole, Signed, Text, Native, Any}

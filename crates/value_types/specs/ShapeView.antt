@@ -2,7 +2,8 @@
 use Rattle.std.specs.Prelude.{ℕ, List, [], ◌∷◌, map, Option, Some, None}
 use Rattle.syntax_trees.specs.View.{ty}
 use Rattle.syntax_trees.specs.declared.tree.Ty.{Ty}
-use Rattle.model_defs.specs.Types.{TypeModel, map_type, item_type, outside_type, types, type_of, array_of, tuple_of, number_of, Arguments, none_given, utc_given, types_given, others_given}
+use Rattle.type_spellings.specs.Types.{type_of, array_of, tuple_of, number_of, Arguments, none_given, utc_given, types_given, others_given}
+use Rattle.model_defs.specs.Types.{TypeModel, map_type, item_type, outside_type, types}
 use Rattle.value_types.specs.declared.shape.Shape.{Shape}
 use Rattle.value_types.specs.declared.shape.Shape.TheVariants as shapes
 use Rattle.value_types.specs.declared.shape.Given.{Given}

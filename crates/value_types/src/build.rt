@@ -1,7 +1,8 @@
 //! The type that a reader of values takes a syntax type for.
 ghost use Rattle.std.specs.Prelude.{◌≡◌, Some, IfOk, string_bytes};
 ghost use Rattle.syntax_trees.specs.View.{ty as ty_view};
-ghost use Rattle.model_defs.specs.Types.{type_of, map_type, tuple_of, types, array_of, number_of};
+ghost use Rattle.type_spellings.specs.Types.{type_of, tuple_of, array_of, number_of};
+ghost use Rattle.model_defs.specs.Types.{map_type, types};
 ghost use Rattle.value_models.specs.TypeView.{type_view, types_view};
 ghost use Rattle.value_types.specs.RowView.{plain_view, held};
 ghost use Rattle.value_types.specs.ShapeView.{types_in};

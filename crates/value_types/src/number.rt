@@ -3,7 +3,7 @@ ghost use Rattle.std.specs.Prelude.{◌≡◌, ◌+◌, ◌*◌, ◌≤◌, Some
 ghost use Rattle.std.specs.List.{list_all};
 ghost use Rattle.std.specs.Char.{is_ascii_digit};
 ghost use Rattle.value_types.specs.Large.{IsTooLarge};
-ghost use Rattle.model_defs.specs.Types.{number_of, number_from};
+ghost use Rattle.type_spellings.specs.Types.{number_of, number_from};
 
 fn are_digits(bytes: &[u8]) -> bool
     ensures { result ≡ list_all is_ascii_digit bytes.now }

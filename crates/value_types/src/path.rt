@@ -3,7 +3,7 @@ ghost use Rattle.std.specs.Prelude.{◌≡◌, map, bytes_eq};
 ghost use Rattle.std.specs.List.{list_all};
 ghost use Rattle.syntax_trees.specs.Syntax.{has_no_arguments, segment_name, segments_of};
 ghost use Rattle.syntax_trees.specs.View.{segment_view};
-ghost use Rattle.model_defs.specs.Types.{same_names, spells};
+ghost use Rattle.type_spellings.specs.Types.{same_names, spells};
 ghost use Rattle.value_types.specs.Paths.{is_bare, names_of, symbols};
 
 use syntax_trees::{PathArguments, PathSegment};

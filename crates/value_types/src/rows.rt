@@ -1,6 +1,6 @@
 //! The built-in types by their names.
 ghost use Rattle.std.specs.Prelude.{◌≡◌, map};
-ghost use Rattle.model_defs.specs.Types.{plain_path};
+ghost use Rattle.type_spellings.specs.Types.{plain_path};
 ghost use Rattle.value_types.specs.Paths.{names_of};
 ghost use Rattle.value_types.specs.RowView.{row_view, word_rows, plain_rows, holder_rows, meaning_of, plain_in, holder_in, plain_or_outside};
 

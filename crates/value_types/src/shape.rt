@@ -3,7 +3,7 @@ ghost use Rattle.std.specs.Prelude.{◌≡◌, [], ◌∷◌, true, false, map, 
 ghost use Rattle.token_trees.specs.View.{fixed_view};
 ghost use Rattle.syntax_trees.specs.Syntax.{angle, more_generics, end_generics, generics_of, segments_of, segment_name, ex_fixed};
 ghost use Rattle.syntax_trees.specs.View.{ty as ty_view, path_view, segment_view, arguments_view, generic_view, expr};
-ghost use Rattle.model_defs.specs.Types.{type_of, literal_number, is_utc, plain_path, path_of_one, path_of_two, path_type, named_type, array_of, utc_given, types_given};
+ghost use Rattle.type_spellings.specs.Types.{type_of, literal_number, is_utc, plain_path, path_of_one, path_of_two, path_type, named_type, array_of, utc_given, types_given};
 ghost use Rattle.value_types.specs.Levels.{path_model, arguments_model, generic_model, segment_model, segment_models};
 ghost use Rattle.value_types.specs.Paths.{names_of};
 ghost use Rattle.value_types.specs.RowView.{meaning_of, word_rows, plain_in};

@@ -4,7 +4,7 @@ use Rattle.std.specs.Str.{chars}
 use Rattle.syntax_parsers.specs.Grammar.{ty_body, path_ty, path_body, segments_body, segment_body, arguments_body}
 use Rattle.syntax_parsers.specs.Read.{levels}
 use Rattle.syntax_parsers.specs.Whole.{type_of}
-use Rattle.model_defs.specs.Types.{word_type}
+use Rattle.type_spellings.specs.Types.{word_type}
 use Rattle.container_defs.proofs.examples.containers_read.Goals as goal
 
 pub returns : goal.returns

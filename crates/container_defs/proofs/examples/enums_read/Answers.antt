@@ -1,6 +1,6 @@
 use Rattle.std.proofs.Common.{refl}
 use Rattle.std.specs.Fmt.{digits}
-use Rattle.model_defs.specs.Types.{word_type}
+use Rattle.type_spellings.specs.Types.{word_type}
 use Rattle.container_defs.proofs.examples.enums_read.Goals as goal
 
 pub returns : goal.returns

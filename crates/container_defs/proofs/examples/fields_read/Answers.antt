@@ -5,7 +5,7 @@ use Rattle.syntax_parsers.specs.Grammar.{expr_path_body, path_body, segments_bod
 use Rattle.syntax_parsers.specs.Read.{levels}
 use Rattle.syntax_parsers.specs.Whole.{expr_path_of}
 use Rattle.schema_defs.specs.Location.{place}
-use Rattle.model_defs.specs.Types.{word_type, path_of_one, path_of_two, plain_path}
+use Rattle.type_spellings.specs.Types.{word_type, path_of_one, path_of_two, plain_path}
 use Rattle.container_defs.proofs.examples.fields_read.Goals as goal
 
 pub returns : goal.returns

@@ -6,7 +6,7 @@ use Rattle.syntax_parsers.specs.Read.{levels}
 use Rattle.syntax_parsers.specs.Where.{some_predicates, predicates_body}
 use Rattle.syntax_parsers.specs.Whole.{expr_path_of, predicates_of}
 use Rattle.schema_defs.specs.Location.{place}
-use Rattle.model_defs.specs.Types.{word_type, path_of_one, path_of_two, plain_path}
+use Rattle.type_spellings.specs.Types.{word_type, path_of_one, path_of_two, plain_path}
 use Rattle.container_defs.proofs.examples.forms_of_fields.Goals as goal
 
 pub returns : goal.returns

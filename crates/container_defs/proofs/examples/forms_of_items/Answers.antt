@@ -5,7 +5,7 @@ use Rattle.syntax_parsers.specs.Grammar.{path_body, segments_body, segment_body,
 use Rattle.syntax_parsers.specs.Read.{levels}
 use Rattle.syntax_parsers.specs.Where.{some_predicates, predicates_body}
 use Rattle.syntax_parsers.specs.Whole.{path_of, type_of, predicates_of}
-use Rattle.model_defs.specs.Types.{word_type}
+use Rattle.type_spellings.specs.Types.{word_type}
 use Rattle.container_defs.proofs.examples.forms_of_items.Goals as goal
 
 pub returns : goal.returns

@@ -3,7 +3,7 @@ use Rattle.std.specs.Str.{chars}
 use Rattle.syntax_parsers.specs.Grammar.{expr_path_body, path_body, segments_body, segment_body, arguments_body}
 use Rattle.syntax_parsers.specs.Read.{levels}
 use Rattle.syntax_parsers.specs.Whole.{expr_path_of}
-use Rattle.model_defs.specs.Types.{path_of_two, plain_path, word_type}
+use Rattle.type_spellings.specs.Types.{path_of_two, plain_path, word_type}
 use Rattle.container_defs.proofs.examples.forms_of_rests.Goals as goal
 
 pub returns : goal.returns

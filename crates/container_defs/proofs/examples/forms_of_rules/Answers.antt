@@ -3,7 +3,7 @@ use Rattle.std.specs.Str.{chars}
 use Rattle.syntax_parsers.specs.Grammar.{ty_body, path_ty, path_body, segments_body, segment_body, arguments_body}
 use Rattle.syntax_parsers.specs.Read.{levels}
 use Rattle.syntax_parsers.specs.Whole.{type_of}
-use Rattle.model_defs.specs.Types.{word_type, plain_path}
+use Rattle.type_spellings.specs.Types.{word_type, plain_path}
 use Rattle.container_defs.proofs.examples.forms_of_rules.Goals as goal
 
 pub returns : goal.returns

@@ -1,5 +1,5 @@
 use Rattle.std.proofs.Common.{refl}
-use Rattle.model_defs.specs.Types.{word_type}
+use Rattle.type_spellings.specs.Types.{word_type}
 use Rattle.container_defs.proofs.examples.forms_of_tables.Goals as goal
 
 pub returns : goal.returns

@@ -4,7 +4,7 @@ use Rattle.syntax_parsers.specs.Grammar.{expr_path_body, path_body, segments_bod
 use Rattle.syntax_parsers.specs.Read.{levels}
 use Rattle.syntax_parsers.specs.Where.{some_predicates, predicates_body}
 use Rattle.syntax_parsers.specs.Whole.{predicates_of, expr_path_of}
-use Rattle.model_defs.specs.Types.{word_type}
+use Rattle.type_spellings.specs.Types.{word_type}
 use Rattle.container_defs.proofs.examples.forms_of_variants.Goals as goal
 
 pub returns : goal.returns

@@ -5,7 +5,7 @@ use Rattle.syntax_parsers.specs.Grammar.{ty_body, path_ty, expr_path_body, path_
 use Rattle.syntax_parsers.specs.Read.{levels}
 use Rattle.syntax_parsers.specs.Whole.{expr_path_of, type_of}
 use Rattle.schema_defs.specs.Location.{place}
-use Rattle.model_defs.specs.Types.{word_type, plain_path, path_of_one, path_of_two}
+use Rattle.type_spellings.specs.Types.{word_type, plain_path, path_of_one, path_of_two}
 use Rattle.emit_laws.specs.Examples.{IsReadBack}
 use Rattle.emit_defs.specs.Examples.{row_1, row_3, row_4, row_5, row_18, row_20, chain, enums, rules, leading, alike}
 use Rattle.emit_laws.proofs.examples.read_back.Goals as goal

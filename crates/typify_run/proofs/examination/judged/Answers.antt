@@ -3,7 +3,7 @@ use Rattle.std.specs.List.{list_all}
 use Rattle.syntax_trees.specs.View.{ty}
 use Rattle.syntax_trees.specs.Item.{item_view}
 use Rattle.serde_json.specs.View.{view}
-use Rattle.model_defs.specs.Types.{type_of}
+use Rattle.type_spellings.specs.Types.{type_of}
 use Rattle.model_defs.specs.Model.{ConversionsD}
 use Rattle.reading_defs.specs.Laws.{defaults_are_sound}
 use Rattle.reading_defs.specs.Proper.{has_json_numbers}

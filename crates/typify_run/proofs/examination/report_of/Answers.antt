@@ -4,7 +4,7 @@ use Rattle.syntax_trees.specs.View.{ty}
 use Rattle.syntax_trees.specs.declared.item.DeriveInput.{DeriveInput}
 use Rattle.serde_json.specs.View.{view}
 use Rattle.schema_defs.specs.Texts.{Relations}
-use Rattle.model_defs.specs.Types.{type_of}
+use Rattle.type_spellings.specs.Types.{type_of}
 use Rattle.schema_tree.specs.Conversions.{conversions_view}
 use Rattle.schema_tree.specs.Document.{view as document_seen}
 use Rattle.schema_tree.specs.Fault.{fault_view}

@@ -4,7 +4,7 @@ use Rattle.serde_json.specs.View.{view}
 use Rattle.serde_json.specs.declared.value.Value.{Value}
 use Rattle.json_value.specs.View.{value_of}
 use Rattle.schema_defs.specs.Texts.{Relations}
-use Rattle.model_defs.specs.Types.{type_of}
+use Rattle.type_spellings.specs.Types.{type_of}
 use Rattle.schema_tree.specs.Numbers.{holds_i64_alone}
 use Rattle.derive_model.specs.Judging.{IsVerdict}
 use Rattle.derive_model.specs.ModuleView.{models_in, conversions_in}

@@ -1,7 +1,7 @@
 use Rattle.std.proofs.Common.{◌≡◌, ◌≤◌, map, take}
 use Rattle.serde_json.specs.View.{view}
 use Rattle.syntax_trees.specs.View.{ty}
-use Rattle.model_defs.specs.Types.{type_of}
+use Rattle.type_spellings.specs.Types.{type_of}
 use Rattle.derive_model.specs.ModuleView.{models_in, conversions_in}
 use Rattle.derive_model.specs.VerdictView.{verdict_view}
 use Rattle.typify_run.specs.Verdicts.{AreVerdicts}

@@ -1,5 +1,5 @@
 use Rattle.std.proofs.Common.{◌≡◌, drop}
-use Rattle.model_defs.specs.Types.{number_from}
+use Rattle.type_spellings.specs.Types.{number_from}
 use Rattle.value_types.proofs.number.number_from.Given as goal
 
 abbrev pub invariant-loop-byte : goal.invariant-loop-byte

@@ -1,5 +1,5 @@
 use Rattle.std.proofs.Common.{◌≡◌, drop}
-use Rattle.model_defs.specs.Types.{same_names}
+use Rattle.type_spellings.specs.Types.{same_names}
 use Rattle.value_types.specs.Paths.{names_of, symbols}
 use Rattle.value_types.proofs.path.have_names.Given as goal
 

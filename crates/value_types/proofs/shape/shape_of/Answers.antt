@@ -1,5 +1,6 @@
 use Rattle.std.proofs.Common.{ap, ◌∙◌}
-use Rattle.model_defs.specs.Types.{tuple_of, types}
+use Rattle.type_spellings.specs.Types.{tuple_of}
+use Rattle.model_defs.specs.Types.{types}
 use Rattle.value_types.specs.ShapeView.{types_in}
 use Rattle.value_types.proofs.Tuples.{tuple_read}
 use Rattle.value_types.proofs.shape.shape_of.Goals as goal

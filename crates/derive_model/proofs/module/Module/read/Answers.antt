@@ -1,4 +1,4 @@
-use Rattle.model_defs.specs.Types.{type_of}
+use Rattle.type_spellings.specs.Types.{type_of}
 use Rattle.json_value.specs.View.{kept_view}
 use Rattle.syntax_trees.specs.View.{ty as ty_view}
 use Rattle.value_models.specs.TypedView.{typed_view}

@@ -1,6 +1,6 @@
 use Rattle.std.proofs.Common.{refl}
-use Rattle.model_defs.specs.Types.{word_type, plain_path, path_of_one, path_of_two}
-use Rattle.model_defs.proofs.examples.spellings.Goals as goal
+use Rattle.type_spellings.specs.Types.{word_type, plain_path, path_of_one, path_of_two}
+use Rattle.type_spellings.proofs.examples.spellings.Goals as goal
 
 pub returns : goal.returns
 unfolding word_type plain_path path_of_one path_of_two

@@ -3,7 +3,8 @@ use Rattle.std.specs.Prelude.{◌≡◌, ℕ, List, [], ◌∷◌, true, false, 
 use Rattle.token_trees.specs.Token.{Name, site, digits}
 use Rattle.syntax_trees.specs.Syntax.{TyD, ty_array, ty_tuple, ty_path, ty_reference, path, SegmentD, segment, no_arguments, angle, GenericD, arg_ty, ex_fixed, no_qself, tys_of, segments_of, generics_of}
 use Rattle.schema_defs.specs.declared.Format.TheVariants.{DateTime}
-use Rattle.model_defs.specs.Types.{TypeModel, boolean_type, text_type, native_type, unit_type, option_type, map_type, tuple_type, array_type, item_type, outside_type, types, from_to, type_of}
+use Rattle.type_spellings.specs.Types.{type_of}
+use Rattle.model_defs.specs.Types.{TypeModel, boolean_type, text_type, native_type, unit_type, option_type, map_type, tuple_type, array_type, item_type, outside_type, types, from_to}
 use Rattle.model_defs.specs.Examples.{byte, t}
 
 abbrev pub word : List ℕ → Name

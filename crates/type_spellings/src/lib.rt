@@ -1,0 +1,4 @@
+//! How the types of fields are spelled, as definitions. They stand in specs/.
+#![tactic(auto)]
+
+pub mod examples;
