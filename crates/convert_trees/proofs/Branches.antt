@@ -12,7 +12,7 @@ use Rattle.schema_tree.specs.Fault.{FaultD, memory, depth}
 use Rattle.convert_trees.specs.Told.{Refuses}
 use Rattle.merged_rows.proofs.Trails.{drop_past}
 use Rattle.convert_trees.proofs.Telling.{cut_refuses, refuses_first}
-use Rattle.attr_parts.proofs.Added.{mapped_drop}
+use Rattle.schema_defs.proofs.Turns.{mapped_drop}
 
 module _ (r : Relations) (d : Document) (most : ℕ) (o : Spot) where
   abbrev there : Location × Schema → Spot

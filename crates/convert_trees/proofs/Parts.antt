@@ -15,7 +15,7 @@ use Rattle.convert_trees.specs.Keeping.{KeptD}
 use Rattle.convert_trees.specs.Told.{IsTold, Refuses, Begins}
 use Rattle.merged_rows.proofs.Trails.{drop_past}
 use Rattle.convert_trees.proofs.Telling.{Passed, passed_on, passed_end, passed_refuses, passed_begins, refuses_from}
-use Rattle.attr_parts.proofs.Added.{mapped_drop}
+use Rattle.schema_defs.proofs.Turns.{mapped_drop}
 
 -- one more part, with what it is converted to
 entries_turn : (convert : Part → Entry) (p : Part) (ps : List Part) (e : Entry) (old new whole : List Entry) → old ++ map convert (p ∷ ps) ≡ whole → new ≡ old ++ e ∷ [] → e ≡ convert p → new ++ map convert ps ≡ whole

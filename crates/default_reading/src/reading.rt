@@ -23,8 +23,7 @@ use crate::parts::{
 };
 use crate::room::{Room, deeper, further};
 use listed_reading::{atom_takes, given_rule_holds, led_to, target_of};
-use row_findings::{FieldState, TagRow};
-use scalar_rows::is_null;
+use row_findings::{FieldState, TagRow, is_null};
 use schema_tree::{TextFault, Texts};
 use serde_json::Value;
 use serde_json::value::Map;

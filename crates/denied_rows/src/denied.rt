@@ -12,10 +12,9 @@ ghost use Rattle.row_findings.specs.View.{part_view, cause_view, finding_view};
 
 use row_findings::{
     Cause, Finding, GivenValues, Keyword, Keywords, Leaf, NoteKind, Part, PartKind, Row, RowRule,
-    Source, Steps, Way, has_one_type, is_without_same, keywords_of, less_enum, made, no_keyword,
-    no_others, noted, of_type, plainly, refused, with_note,
+    Source, Steps, ValueKind, Way, all_of, any_of, has_one_type, is_without_same, keywords_of,
+    less_enum, made, no_keyword, no_others, noted, of_type, plainly, refused, with_note,
 };
-use scalar_rows::{ValueKind, all_of, any_of};
 use schema_types::{InstanceType, Schema};
 use std::alloc::{AllocError, Global};
 

@@ -12,7 +12,7 @@ use Rattle.row_findings.specs.declared.part.PartKind.{PartKind}
 use Rattle.row_findings.specs.declared.part.PartKind.TheVariants as kinds
 use Rattle.row_findings.specs.Given.{source_view}
 use Rattle.row_findings.specs.View.{part_by, part_view, steps_view}
-use Rattle.attr_parts.proofs.Added.{mapped_drop}
+use Rattle.schema_defs.proofs.Turns.{mapped_drop}
 use Rattle.document_merges.specs.declared.listed.Listed.{Listed}
 use Rattle.document_merges.specs.Listed.{listed_view}
 use Rattle.document_merges.specs.Merges.{MergeD, merges_in}

@@ -12,7 +12,6 @@ ghost use Rattle.space_defs.specs.Trees.{field_defaults_at, contents_defaults_at
 ghost use Rattle.emit_types.specs.Asked.{space_view, same_part, leads_by, placed_item};
 
 use crate::fields::{content_fields, struct_fields};
-use attr_parts::TagType;
 use emit_trees::{enum_item, item_metas, newtype_fields, struct_item, variant};
 use emit_types::{ends_in_phantom, type_at};
 use entry_types::{FieldEntry, ItemEntry, ItemShape, TypeEntry, TypeId, VariantEntry};
@@ -21,6 +20,7 @@ use schema_tree::Rule;
 use serde_json::Value;
 use std::alloc::{AllocError, Global};
 use syntax_trees::{DeriveInput, Fields, Ty, Variant};
+use tag_kinds::TagType;
 use token_trees::TokenStream;
 
 // The text of a type's tokens.

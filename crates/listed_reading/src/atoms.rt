@@ -11,19 +11,19 @@ ghost use Rattle.tree_types.specs.View.{atom_view, target_view};
 ghost use Rattle.listed_reading.specs.Followed.{Followed, takes_in};
 
 use entry_types::IntName;
-use scalar_rows::is_null;
+use row_findings::is_null;
 use schema_tree::{Format, TextFault, Texts};
 use serde_json::Value;
 use tree_types::{Atom, Target};
 
-#[tactic(auto, using(scalar_rows::proofs::Seen::boolean_seen))]
+#[tactic(auto, using(row_findings::proofs::KindsSeen::boolean_seen))]
 fn is_boolean(value: &Value) -> bool
     ensures { result ≡ is_boolean_value (kept_view value.now) }
 {
     value.is_boolean()
 }
 
-#[tactic(auto, using(scalar_rows::proofs::Seen::text_seen))]
+#[tactic(auto, using(row_findings::proofs::KindsSeen::text_seen))]
 fn is_text(value: &Value) -> bool
     ensures { result ≡ is_text_value (kept_view value.now) }
 {

@@ -10,8 +10,7 @@ ghost use Rattle.tree_types.specs.View.{table_view, tree_view};
 ghost use Rattle.listed_reading.specs.Unread.{first_of, is_unread as is_unread_in, standing, standing_unread, unread};
 
 use crate::scalars::takes_scalar;
-use row_findings::{GivenValues, RowRule};
-use scalar_rows::is_null;
+use row_findings::{GivenValues, RowRule, is_null};
 use schema_tree::{TextFault, Texts};
 use serde_json::Value;
 use tree_types::{Tree, TreeTable};

@@ -10,7 +10,7 @@ ghost use Rattle.convert_defs.specs.Scalars.{rule_of_texts};
 ghost use Rattle.tree_types.specs.View.{rule_view};
 ghost use Rattle.listed_reading.specs.Rules.{keys_rule};
 
-use scalar_rows::lists_value;
+use row_findings::lists_value;
 use schema_tree::{TextFault, Texts};
 use schema_types::{Schema, StringValidation};
 use serde_json::Value;

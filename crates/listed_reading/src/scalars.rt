@@ -14,7 +14,7 @@ use crate::led::led_to;
 use crate::owners::{no_list, no_object};
 use crate::tags::tag_takes;
 use crate::wraps::wrap_takes;
-use scalar_rows::is_null;
+use row_findings::is_null;
 use schema_tree::{TextFault, Texts};
 use serde_json::Value;
 use tree_types::{ContentKind, FieldHead, Target, Tree, TreeTable, VariantHead};

@@ -9,7 +9,7 @@ ghost use Rattle.listed_reading.specs.Followed.{Followed, takes_in};
 
 use crate::owners::no_list;
 use crate::rules::rule_holds;
-use scalar_rows::is_null;
+use row_findings::is_null;
 use schema_tree::{TextFault, Texts};
 use serde_json::Value;
 use tree_types::{TreeRule, Wrap};

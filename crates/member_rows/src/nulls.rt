@@ -14,10 +14,9 @@ ghost use Rattle.schema_defs.specs.Schema.{many_types};
 use crate::members::Member;
 use enum_shapes::is_null_schema;
 use row_findings::{
-    GivenTypes, GivenValues, Keywords, is_without_lists, is_without_named, is_without_same,
-    keywords_of, same_type,
+    GivenTypes, GivenValues, Keywords, ValueKind, all_of, any_of, is_null, is_without_lists,
+    is_without_named, is_without_same, keywords_of, same_type,
 };
-use scalar_rows::{ValueKind, all_of, any_of, is_null};
 use schema_types::{InstanceType, Schema};
 use serde_json::Value;
 

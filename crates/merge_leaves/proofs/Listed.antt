@@ -7,7 +7,7 @@ use Rattle.json_value.specs.Value.{Value}
 use Rattle.json_value.specs.View.{kept_view}
 use Rattle.merge_leaves.specs.declared.kept.Keep.{Keep}
 use Rattle.merge_leaves.specs.Keep.{keeps}
-use Rattle.merge_parts.proofs.Loops.{mapped_drop}
+use Rattle.schema_defs.proofs.Turns.{mapped_drop}
 use Rattle.merge_leaves.proofs.Filters.{kept, left_out, no_more}
 
 module _ (k : Keep) (xs : List json.Value) (i : ℕ) where

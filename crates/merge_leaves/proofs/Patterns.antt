@@ -10,7 +10,7 @@ use Rattle.std.proofs.lemmas.List.{drop_all, get_or_default, map_push}
 use Rattle.std.proofs.lemmas.Map.Text.{is_eq-slice_cmp}
 use Rattle.std.proofs.lemmas.Slice.Eq.{bytes_eq-Decides}
 use Rattle.merge_defs.specs.Leaves.{each_once}
-use Rattle.merge_parts.proofs.Loops.{mapped_drop}
+use Rattle.schema_defs.proofs.Turns.{mapped_drop}
 
 pub pointwise_of_texts : (ss ts : List (String Global)) → pointwise string_eq ss ts ≡ pointwise bytes_eq (map string_bytes ss) (map string_bytes ts)
 pointwise_of_texts [] [] = refl

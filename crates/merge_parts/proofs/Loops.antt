@@ -1,13 +1,10 @@
 -- One element of a list after another, each giving some of what is made.
-use Rattle.std.proofs.Common.{◌≡◌, ℕ, suc, ◌+◌, ◌<◌, ◌≤◌, List, [], ◌∷◌, ◌++◌, map, drop, length, get_or, drop-cons, append_assoc, append-nil, refl, sym, ap, ◌∙◌, arith}
+use Rattle.std.proofs.Common.{◌≡◌, ℕ, ◌+◌, ◌<◌, ◌≤◌, List, [], ◌∷◌, ◌++◌, map, drop, length, get_or, append_assoc, append-nil, refl, sym, ap, ◌∙◌}
 use Rattle.std.proofs.lemmas.List.{drop_all}
+use Rattle.schema_defs.proofs.Turns.{mapped_drop}
 use Rattle.merge_defs.specs.Outcome.{Note, other_way, turned}
 use Rattle.merge_parts.specs.declared.notes.MergeNote.{MergeNote}
 use Rattle.merge_parts.specs.View.{note_view, notes_view}
-
-pub mapped_drop : {X Y : Type 0} (f : X → Y) (xs : List X) (i : ℕ) (x : X) → i < length xs → x ≡ get_or xs i x → map f (drop i xs) ≡ f x ∷ map f (drop (i + 1) xs)
-mapped_drop f xs i x h e =
-    ap (map f) (drop-cons xs i x h) ∙ ap (λ y. f y ∷ map f (drop (suc i) xs)) (sym e) ∙ ap (λ n. f x ∷ map f (drop n xs)) (let k : suc i ≡ i + 1 = omega arith in k)
 
 -- what an element gives, behind what those before it gave
 module _ {X Y Z : Type 0} (f : X → Y) (first : Y → List Z) (all : List Y → List Z) (none : all [] ≡ []) (more : (y : Y) (ys : List Y) → all (y ∷ ys) ≡ first y ++ all ys) where

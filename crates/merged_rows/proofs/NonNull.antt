@@ -6,7 +6,7 @@ use Rattle.serde_json.specs.declared.value.Value as json
 use Rattle.json_value.specs.Value.{Value}
 use Rattle.json_value.specs.View.{kept_view}
 use Rattle.model_defs.specs.Layer.{is_null}
-use Rattle.merge_parts.proofs.Loops.{mapped_drop}
+use Rattle.schema_defs.proofs.Turns.{mapped_drop}
 use Rattle.merge_leaves.proofs.Filters.{kept, left_out, no_more}
 
 abbrev stays : Value → Bool

@@ -9,11 +9,10 @@ ghost use Rattle.row_findings.specs.Given.{plain_view, same_view, lists_view, na
 ghost use Rattle.row_findings.specs.View.{part_view, row_view};
 
 use row_findings::{
-    Cause, GivenValues, Keyword, Keywords, Part, PartKind, Row, Source, Steps, has_type,
-    is_without_lists, is_without_named, is_without_same, keywords_of, made, no_keyword, of_type,
-    part_under,
+    Cause, GivenValues, Keyword, Keywords, Part, PartKind, Row, Source, Steps, ValueKind, all_of,
+    has_type, is_without_lists, is_without_named, is_without_same, keywords_of, made, no_keyword,
+    of_type, part_under,
 };
-use scalar_rows::{ValueKind, all_of};
 use schema_types::{InstanceType, ObjectValidation, Schema};
 use std::alloc::{AllocError, Global};
 use std::collections::BTreeMap;

@@ -10,6 +10,7 @@ mod notes;
 mod part;
 mod row;
 mod standing;
+mod values;
 
 pub use changed::{less_const, less_enum, less_reference, less_types, of_type};
 pub use finding::{Branch, Cause, Finding, Note, NoteKind, Patterns, Way, noted, plainly, refused};
@@ -26,3 +27,4 @@ pub use standing::{
     is_without_named, is_without_same, no_others, no_ranges, only_type, same_type, type_among,
     type_beside_null,
 };
+pub use values::{ValueKind, all_of, any_of, is_left_out, is_null, lists_boolean, lists_value};

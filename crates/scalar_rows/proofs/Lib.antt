@@ -1,3 +1,1 @@
 pub mod Constants
-pub mod Given
-pub mod Seen

@@ -3,8 +3,6 @@
 
 mod listed;
 mod texts;
-mod values;
 
 pub use listed::{boolean_finding, constant_finding, enumerated, less_null, listed_alone};
 pub use texts::{asking_patterns, given_format, string_finding};
-pub use values::{ValueKind, all_of, any_of, is_null, lists_boolean, lists_value};

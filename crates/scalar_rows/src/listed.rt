@@ -11,13 +11,13 @@ ghost use Rattle.entry_defs.specs.Entry.{unit_entry};
 ghost use Rattle.convert_defs.specs.Table.{constant_finding as constant_finding_of, constant_list};
 ghost use Rattle.row_findings.specs.Given.{given_values_view, plain_view, keywords_view};
 ghost use Rattle.row_findings.specs.View.{leaf_view, finding_view};
-ghost use Rattle.scalar_rows.specs.Kinds.{is_text_or_null, passes, of_one_kind};
+ghost use Rattle.row_findings.specs.Kinds.{is_text_or_null, passes, of_one_kind};
 
 use crate::texts::given_format;
-use crate::values::{ValueKind, all_of, any_of, is_left_out, is_null, lists_boolean, lists_value};
 use row_findings::{
-    Cause, Finding, GivenValues, Keywords, Leaf, NoteKind, Row, RowRule, Way, made, no_keyword,
-    noted, of_type, plainly, refused, with_note,
+    Cause, Finding, GivenValues, Keywords, Leaf, NoteKind, Row, RowRule, ValueKind, Way, all_of,
+    any_of, is_left_out, is_null, lists_boolean, lists_value, made, no_keyword, noted, of_type,
+    plainly, refused, with_note,
 };
 use schema_types::InstanceType;
 use serde_json::Value;
@@ -57,7 +57,7 @@ pub fn enumerated<'d>(
     ))
 }
 
-#[tactic(auto, using(crate::proofs::Seen::text_or_null_seen))]
+#[tactic(auto, using(row_findings::proofs::KindsSeen::text_or_null_seen))]
 fn is_text_or_null_value(value: &Value) -> bool
     ensures { result ≡ is_text_or_null (kept_view value.now) }
 {
@@ -181,7 +181,7 @@ pub fn less_null(default: Option<&Value>) -> Option<&Value>
 }
 
 // Where no null and no owner is listed, and something is.
-#[tactic(auto, using(crate::proofs::Given::plain_texts))]
+#[tactic(auto, using(row_findings::proofs::LessNulls::plain_texts))]
 fn listed_of_one_kind<'d>(
     alloc: Global,
     keywords: &Keywords<'d>,

@@ -6,5 +6,6 @@ pub mod Spare
 pub mod Guarded
 pub mod Decided
 pub mod Mapped
+pub mod Turns
 pub mod Rising
 pub mod Settings

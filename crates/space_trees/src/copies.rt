@@ -12,7 +12,6 @@ ghost use Rattle.row_findings.specs.Given.{given_values_view};
 ghost use Rattle.row_findings.specs.View.{tag_view, state_view};
 ghost use Rattle.tree_types.specs.View.{label_view, rule_view};
 
-use attr_parts::TagType;
 use entry_space::State;
 use row_findings::{FieldState, GivenValues, TagRow};
 use schema_tree::Rule;
@@ -20,6 +19,7 @@ use schema_types::{Schema, copy_list_of_texts, copy_list_of_values};
 use serde_json::Value;
 use std::alloc::{AllocError, Global};
 use std::collections::BTreeMap;
+use tag_kinds::TagType;
 use tree_types::{Label, TreeRule};
 
 /// The name that is given, or else the wanted one.

@@ -18,7 +18,7 @@ use Rattle.entry_defs.specs.Entry.{Entry, item, option_entry, unit_entry, enum_s
 use Rattle.enum_defs.specs.Words.{as_text}
 use Rattle.convert_defs.specs.Convert.{labeled}
 use Rattle.convert_defs.specs.Scalars.{distinct, kept_texts, listed_entry, texts_in, unit_variants, non_null}
-use Rattle.attr_parts.proofs.Added.{mapped_drop}
+use Rattle.schema_defs.proofs.Turns.{mapped_drop}
 use Rattle.row_findings.specs.declared.given.GivenValues.{GivenValues}
 use Rattle.row_findings.specs.Given.{given_values_view}
 use Rattle.tree_types.specs.View.{variants_then, variants_view, cases_of}

@@ -15,10 +15,10 @@ ghost use Rattle.type_rows.specs.Line.{held_view, line};
 
 use crate::line::hold;
 use row_findings::{
-    Finding, GivenTypes, GivenValues, Keywords, Leaf, NoteKind, Row, Way, has_type, is_bare, made,
-    noted, plainly, same_type, type_beside_null, with_note,
+    Finding, GivenTypes, GivenValues, Keywords, Leaf, NoteKind, Row, ValueKind, Way, all_of,
+    any_of, has_type, is_bare, made, noted, plainly, same_type, type_beside_null, with_note,
 };
-use scalar_rows::{ValueKind, all_of, any_of, less_null};
+use scalar_rows::less_null;
 use schema_types::InstanceType;
 use std::alloc::{AllocError, Global};
 

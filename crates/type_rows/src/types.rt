@@ -13,11 +13,10 @@ ghost use Rattle.type_rows.specs.Line.{held_view, line};
 
 use crate::line::hold;
 use row_findings::{
-    Cause, Finding, GivenValues, Keywords, Leaf, NoteKind, Part, Row, RowRule, Way,
-    has_conditional, has_one_type, is_bare, is_untyped, is_without_lists, is_without_named,
+    Cause, Finding, GivenValues, Keywords, Leaf, NoteKind, Part, Row, RowRule, ValueKind, Way,
+    any_of, has_conditional, has_one_type, is_bare, is_untyped, is_without_lists, is_without_named,
     is_without_same, less_const, less_enum, made, no_keyword, noted, plainly, refused, with_note,
 };
-use scalar_rows::{ValueKind, any_of};
 use std::alloc::{AllocError, Global};
 
 /// `if`, `then` or `else`: refused.

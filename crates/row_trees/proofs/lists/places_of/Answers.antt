@@ -1,5 +1,5 @@
 use Rattle.std.proofs.Common.{◌+◌, map, drop, ap, sym, ◌∙◌}
-use Rattle.attr_parts.proofs.Added.{mapped_drop}
+use Rattle.schema_defs.proofs.Turns.{mapped_drop}
 use Rattle.entry_defs.specs.Entry.{Entries}
 use Rattle.tree_types.specs.View.{parts_of, places_then, tree_view}
 use Rattle.row_findings.specs.View.{part_view}

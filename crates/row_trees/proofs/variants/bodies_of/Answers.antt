@@ -1,6 +1,6 @@
 use Rattle.std.proofs.Common.{◌+◌, ◌++◌, map, drop, ap, sym, ◌∙◌}
 use Rattle.std.proofs.lemmas.List.{map_push}
-use Rattle.attr_parts.proofs.Added.{mapped_drop}
+use Rattle.schema_defs.proofs.Turns.{mapped_drop}
 use Rattle.tree_types.specs.View.{tree_view}
 use Rattle.row_findings.specs.View.{variant_view}
 use Rattle.row_trees.specs.Build.{bodies_held}

@@ -1,7 +1,7 @@
 use Rattle.std.proofs.Common.{◌≡◌, map, length}
 use Rattle.std.specs.List.{list_all}
 use Rattle.json_value.specs.View.{kept_view}
-use Rattle.scalar_rows.specs.Kinds.{is_text_or_null, passes}
+use Rattle.row_findings.specs.Kinds.{is_text_or_null, passes}
 use Rattle.scalar_rows.proofs.listed.all_texts_or_null.Given as goal
 
 abbrev pub invariant-loop-value : goal.invariant-loop-value

@@ -1,6 +1,6 @@
 use Rattle.std.proofs.Common.{◌≡◌, sym, ◌∙◌}
-use Rattle.scalar_rows.specs.Kinds.{is_text_or_null}
-use Rattle.scalar_rows.proofs.Given.{all_given}
+use Rattle.row_findings.specs.Kinds.{is_text_or_null}
+use Rattle.row_findings.proofs.LessNulls.{all_given}
 use Rattle.scalar_rows.proofs.listed.are_texts_or_null.Goals as goal
 
 pub returns : goal.returns

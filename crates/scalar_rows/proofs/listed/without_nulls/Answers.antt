@@ -1,7 +1,7 @@
 use Rattle.std.proofs.Common.{◌≡◌, Some, sym}
 use Rattle.convert_defs.specs.Standing.{alone}
 use Rattle.row_findings.specs.Given.{plain_view}
-use Rattle.scalar_rows.proofs.Given.{given_again}
+use Rattle.row_findings.proofs.LessNulls.{given_again}
 use Rattle.scalar_rows.proofs.listed.without_nulls.Goals as goal
 
 pub returns : goal.returns

@@ -3,7 +3,7 @@ use Rattle.json_value.specs.Value.{Value}
 use Rattle.json_value.specs.View.{kept_view}
 use Rattle.convert_defs.specs.Scalars.{non_null}
 use Rattle.row_findings.specs.Given.{given_values_view}
-use Rattle.scalar_rows.proofs.Given.{non_null-again}
+use Rattle.row_findings.proofs.LessNulls.{non_null-again}
 use Rattle.type_rows.proofs.null.less_nulls.Goals as goal
 
 -- values that are taken less nulls already stay as they are

@@ -9,7 +9,7 @@ use Rattle.model_defs.specs.Layer.{is_null}
 use Rattle.convert_defs.specs.Scalars.{non_null, kept_texts, distinct, texts_in, listed_entry, texts_entry}
 use Rattle.row_findings.specs.declared.given.GivenValues.{GivenValues}
 use Rattle.row_findings.specs.Given.{given_values_view}
-use Rattle.scalar_rows.specs.Kinds.{passes, stands}
+use Rattle.row_findings.specs.Kinds.{passes, stands}
 
 abbrev pub given : Bool → List Value → List Value
 given less vs = if less then non_null vs else vs

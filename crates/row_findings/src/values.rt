@@ -7,10 +7,10 @@ ghost use Rattle.schema_defs.specs.Layer.{is_listed};
 ghost use Rattle.row_findings.specs.Given.{given_values_view};
 ghost use Rattle.model_defs.specs.Layer.{is_null as null_value};
 ghost use Rattle.convert_defs.specs.Scalars.{is_number};
-ghost use Rattle.scalar_rows.specs.Kinds.{is_of_kind, left_out, passes as passes_as, stands as stands_as};
+ghost use Rattle.row_findings.specs.Kinds.{is_of_kind, left_out, passes as passes_as, stands as stands_as};
 
+use crate::given::GivenValues;
 use json_value::same;
-use row_findings::GivenValues;
 use serde_json::Value;
 
 /// The kinds of values that rows tell apart. An owner is a list or an object; a number is whole.
@@ -24,7 +24,7 @@ pub enum ValueKind {
 }
 
 /// Whether a value is null. It takes no memory.
-#[tactic(auto, using(crate::proofs::Seen::null_seen))]
+#[tactic(auto, using(crate::proofs::KindsSeen::null_seen))]
 pub fn is_null(value: &Value) -> bool
     ensures { result ≡ null_value (kept_view value.now) }
 {
@@ -40,7 +40,7 @@ fn is_whole_number(value: &Value) -> bool
     }
 }
 
-#[tactic(auto, using(crate::proofs::Seen::boolean_seen, crate::proofs::Seen::text_seen, crate::proofs::Seen::owner_seen))]
+#[tactic(auto, using(crate::proofs::KindsSeen::boolean_seen, crate::proofs::KindsSeen::text_seen, crate::proofs::KindsSeen::owner_seen))]
 fn is_of(value: &Value, kind: ValueKind) -> bool
     ensures { result ≡ is_of_kind kind (kept_view value.now) }
 {
@@ -53,7 +53,8 @@ fn is_of(value: &Value, kind: ValueKind) -> bool
     }
 }
 
-pub(crate) fn is_left_out(less_nulls: bool, value: &Value) -> bool
+/// Whether the value is a null where nulls are left out. It takes no memory.
+pub fn is_left_out(less_nulls: bool, value: &Value) -> bool
     ensures { result ≡ left_out less_nulls (kept_view value.now) }
 {
     less_nulls && is_null(value)

@@ -7,7 +7,7 @@ use Rattle.serde_json.specs.Find.{as_null, as_bool, as_str, as_array, as_object}
 use Rattle.json_value.specs.View.{value_of}
 use Rattle.model_defs.specs.Layer.{is_null, is_text, is_boolean}
 use Rattle.convert_defs.specs.Scalars.{is_owner}
-use Rattle.scalar_rows.specs.Kinds.{is_text_or_null}
+use Rattle.row_findings.specs.Kinds.{is_text_or_null}
 
 pub null_seen : (d : Data) → is_null (value_of d) ≡ is_some (as_null d)
 null_seen data'.null = refl

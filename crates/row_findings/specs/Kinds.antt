@@ -9,8 +9,8 @@ use Rattle.model_defs.specs.Layer.{is_null, is_text, is_boolean}
 use Rattle.convert_defs.specs.Row.{leaf_row, ruled_row, refused_row, made, mixed_enum, Finding, plainly}
 use Rattle.convert_defs.specs.Standing.{no_keyword, of_type, alone}
 use Rattle.convert_defs.specs.Scalars.{is_number, is_owner, texts_entry, wanted_of, distinct, texts_in, boolean_finding}
-use Rattle.scalar_rows.specs.declared.values.ValueKind.{ValueKind}
-use Rattle.scalar_rows.specs.declared.values.ValueKind.TheVariants as kinds
+use Rattle.row_findings.specs.declared.values.ValueKind.{ValueKind}
+use Rattle.row_findings.specs.declared.values.ValueKind.TheVariants as kinds
 
 abbrev pub is_of_kind : ValueKind → Value → Bool
 is_of_kind kinds.Null = is_null
