@@ -28,7 +28,7 @@ use merged_rows::{
     Merging, Standing, is_deep, merge_row, merged_parts, place_of_part, standing, start_at,
 };
 use row_findings::{Branch, Finding, Part, Row, Source, Steps};
-use schema_rows::finding;
+use row_table::finding;
 use schema_types::Schema;
 
 // ---- the recursion

@@ -11,4 +11,4 @@ mod scope;
 pub use document::{definition_start, merges_at, merges_of, root_start};
 pub use listed::{Listed, listed_parts};
 pub use merge::{Merge, MergeEnd};
-pub use schema_rows::finding;
+pub use row_table::finding;
