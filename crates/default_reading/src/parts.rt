@@ -2,14 +2,14 @@
 ghost use Rattle.std.specs.Prelude.{◌≡◌, ◌&&◌, Option, Some, drop, option_map};
 ghost use Rattle.serde_json.specs.View.{members_view};
 ghost use Rattle.json_value.specs.View.{members_of, kept_view};
-ghost use Rattle.entry_defs.specs.Layer.{is_field as is_field_of, is_unit as is_unit_of};
-ghost use Rattle.tree_types.specs.View.{Parts, contents_view};
+ghost use Rattle.entry_defs.specs.Layer.{is_field as is_field_of};
 ghost use Rattle.tree_types.specs.declared.tree.Tree.{Tree};
 ghost use Rattle.default_reading.specs.Seen.{case_named, case_of_text, first_tree, front_tree, is_unit_case, listed, or_else, rest_tree as rest_tree_of, tagged_case};
 ghost use Rattle.default_reading.specs.Steps.{has_others as has_others_of, is_other as is_other_of};
 
 use crate::members::{is_passed, member};
 use crate::owners::text_of;
+use listed_reading::is_unit;
 use serde_json::Value;
 use serde_json::value::Map;
 use tree_types::{ContentKind, FieldHead, Label, Tree, VariantHead};
@@ -133,17 +133,6 @@ pub fn variant_named<'t, 'd>(
         }
     }
     None
-}
-
-pub fn is_unit(kind: ContentKind) -> bool
-    ensures { (ps : Parts) → result ≡ is_unit_of (contents_view kind ps) }
-{
-    match kind {
-        ContentKind::Unit => true,
-        ContentKind::Newtype => false,
-        ContentKind::Tuple => false,
-        ContentKind::Struct => false,
-    }
 }
 
 /// Whether the first variant of that name holds nothing.

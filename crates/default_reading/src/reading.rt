@@ -18,11 +18,11 @@ use crate::found::{Found, both, given, is_ended, is_refused, told};
 use crate::members::{given_member, is_too_much, member, only_member, text_value};
 use crate::owners::{list_of, object_of, text_of};
 use crate::parts::{
-    field_tree, front_part, has_unnamed, is_other, is_unit, names_unit, rest_tree, tagged,
-    tree_from, variant_named,
+    field_tree, front_part, has_unnamed, is_other, names_unit, rest_tree, tagged, tree_from,
+    variant_named,
 };
 use crate::room::{Room, deeper, further};
-use listed_reading::{atom_takes, given_rule_holds, led_to, target_of};
+use listed_reading::{atom_takes, given_rule_holds, is_unit, led_to, target_of};
 use row_findings::{FieldState, TagRow, is_null};
 use schema_tree::{TextFault, Texts};
 use serde_json::Value;

@@ -9,3 +9,4 @@ mod set;
 pub use apart::exclusive;
 pub use enum_defs::KindSet;
 pub use kind::{kinds, null_free};
+pub use set::is_disjoint;

@@ -62,8 +62,8 @@ pub(crate) fn join(a: KindSet, b: KindSet) -> KindSet
     }
 }
 
-// Whether no kind is in both.
-pub(crate) fn is_disjoint(a: KindSet, b: KindSet) -> bool
+/// Whether no kind is in both. It takes no memory.
+pub fn is_disjoint(a: KindSet, b: KindSet) -> bool
     ensures { result ≡ is_disjoint_of a b }
 {
     !((a.null && b.null)

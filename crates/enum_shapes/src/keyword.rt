@@ -55,7 +55,8 @@ fn are_null(values: &Vec<Value>) -> bool
     true
 }
 
-fn are_null_types(kinds: &Vec<InstanceType>) -> bool
+/// Whether each of the types is null. It takes no memory.
+pub fn are_null_types(kinds: &Vec<InstanceType>) -> bool
     ensures { result ≡ list_all (same_type_of InstanceType.Null) kinds.now.items }
 {
     kinds

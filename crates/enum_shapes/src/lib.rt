@@ -14,6 +14,6 @@ pub use adjacent::{AdjacentShape, adjacent_shape};
 pub use cases::Case;
 pub use external::external_shape;
 pub use internal::{InternalCase, InternalShape, internal_shape};
-pub use keyword::{constant_text, is_null_schema};
+pub use keyword::{are_null_types, constant_text, is_null_schema};
 pub use object::{ObjectShape, constant_of, is_named, is_required, is_unruled, object_shape};
 pub use option::option_shape;

@@ -18,9 +18,9 @@ pub fn take(names: &mut BTreeSet<String>, alloc: Global, name: &str) -> Result<(
     Ok(())
 }
 
-// A prefix with a number.
+/// A prefix with a number. Fails only for want of memory.
 #[tactic(auto, using(crate::proofs::Steps::written))]
-fn numbered(alloc: Global, prefix: &str, number: usize) -> Result<String, AllocError>
+pub fn numbered(alloc: Global, prefix: &str, number: usize) -> Result<String, AllocError>
     ensures { IfOk result (λ s. string_bytes s ≡ numbered prefix.now number) }
 {
     let mut name = String::from_str(alloc, prefix)?;

@@ -6,7 +6,7 @@ ghost use Rattle.naming_defs.specs.Good.{is_good_name as is_good};
 ghost use Rattle.good_names.specs.Given.{is_used, Stands, Does, name_given, number_given};
 
 use crate::kept::is_good_name;
-use free_names::take;
+use free_names::{numbered, take};
 use std::alloc::{AllocError, Global};
 use std::collections::BTreeSet;
 
@@ -17,17 +17,6 @@ pub struct GivenNames {
     given: BTreeSet<String>,
     beside: BTreeSet<String>,
     next: usize,
-}
-
-// A prefix with a number.
-#[tactic(auto, using(crate::proofs::First::written))]
-fn numbered(alloc: Global, prefix: &str, number: usize) -> Result<String, AllocError>
-    ensures { IfOk result (λ s. string_bytes s ≡ numbered prefix.now number) }
-{
-    let mut name = String::from_str(alloc, prefix)?;
-    let digits = number.to_string(alloc)?;
-    name.push_str(&digits)?;
-    Ok(name)
 }
 
 impl GivenNames {

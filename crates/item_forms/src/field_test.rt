@@ -1,7 +1,6 @@
 //! What is asked of a field.
 ghost use Rattle.std.specs.Prelude.{◌≡◌, ◌&&◌, ◌||◌, not, is_some, map};
 ghost use Rattle.syntax_trees.specs.Item.{item_view};
-ghost use Rattle.syntax_trees.specs.View.{member_view};
 ghost use Rattle.attr_parts.specs.Values.{lacks_default};
 ghost use Rattle.container_defs.specs.Reader.{has_name, reads_some, reads_whole};
 ghost use Rattle.container_defs.specs.Forms.{names_of, holds, fails, is_own, empties, field_type, is_known_reader, is_known_condition, has_odd_emptiness, has_extras, has_odd_some, has_odd_whole, is_odd_rest};
@@ -12,9 +11,8 @@ use crate::condition::{empties, is_known_condition, is_known_reader};
 use crate::type_form::{is_option, is_text_map};
 use attr_parts::Default;
 use derive_ast::Field;
-use item_models::{reads_some, reads_whole};
+use item_models::{has_name, reads_some, reads_whole};
 use item_names::ItemNames;
-use syntax_trees::Member;
 
 /// What is asked of each field.
 #[derive(Clone, Copy)]
@@ -142,15 +140,6 @@ fn lacks_default(field: &Field<'_>) -> bool
     ensures { result ≡ lacks_default (field_view field.now).attrs.default }
 {
     field.attrs.default().is_none()
-}
-
-fn has_name(member: &Member) -> bool
-    ensures { result ≡ has_name (member_view member.now) }
-{
-    match member {
-        Member::Named(_) => true,
-        Member::Unnamed(_) => false,
-    }
 }
 
 fn has_extras(field: &Field<'_>) -> bool

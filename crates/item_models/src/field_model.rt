@@ -18,7 +18,8 @@ use syntax_trees::Member;
 use value_models::{Field, Fields, Style};
 use value_types::value_type;
 
-fn has_name(member: &Member) -> bool
+/// Whether the field has a name. It takes no memory.
+pub fn has_name(member: &Member) -> bool
     ensures { result ≡ has_name (member_view member.now) }
 {
     match member {

@@ -9,4 +9,5 @@ mod variant_model;
 
 pub use container_model::model_of_container;
 pub use default_model::{Place, place_of};
+pub use field_model::has_name;
 pub use known::{is_local, is_rooted, reads_some, reads_whole};

@@ -16,4 +16,5 @@ pub use atoms::{atom_takes, target_of};
 pub use led::led_to;
 pub use listed::{first_listed_by, first_unread_by};
 pub use scalars::takes_scalar;
+pub use tags::is_unit;
 pub use wraps::given_rule_holds;

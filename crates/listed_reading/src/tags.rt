@@ -1,9 +1,8 @@
 //! Values and tags of enums.
-ghost use Rattle.std.specs.Prelude.{◌≡◌, ℕ, List, Bool, IfErr, IfOk, option_map, unwrap_or};
+ghost use Rattle.std.specs.Prelude.{◌≡◌, ℕ, List, Bool, IfErr, IfOk, unwrap_or};
 ghost use Rattle.std.specs.List.{list_any};
 ghost use Rattle.schema_defs.specs.Texts.{Relations};
 ghost use Rattle.json_value.specs.View.{kept_view};
-ghost use Rattle.enum_defs.specs.Words.{as_text as as_text_of};
 ghost use Rattle.model_defs.specs.Model.{external_tag};
 ghost use Rattle.entry_defs.specs.Entry.{item, enum_shape, variants_of};
 ghost use Rattle.entry_defs.specs.Layer.{contents_entry, is_unit as is_unit_of, is_unit_named, variant_named};
@@ -15,9 +14,11 @@ use crate::owners::no_object;
 use row_findings::TagRow;
 use schema_tree::TextFault;
 use serde_json::Value;
+use tree_parts::as_text;
 use tree_types::{ContentKind, FieldHead, Tree, VariantHead};
 
-fn is_unit(kind: ContentKind) -> bool
+/// Whether the contents are none. It takes no memory.
+pub fn is_unit(kind: ContentKind) -> bool
     ensures { (ps : Parts) → result ≡ is_unit_of (contents_view kind ps) }
 {
     match kind {
@@ -41,13 +42,6 @@ fn names_unit<'d>(
         }
     }
     false
-}
-
-#[tactic(auto, using(tree_parts::proofs::TextsSeen::text_seen))]
-fn as_text(value: &Value) -> Option<&str>
-    ensures { option_map (λ t. t.now) result ≡ as_text_of (kept_view value.now) }
-{
-    value.as_str()
 }
 
 // A text is the name of a variant that holds nothing.

@@ -1,10 +1,10 @@
 //! Members that are null, and the one beside them.
 ghost use Rattle.std.specs.Prelude.{◌≡◌, ◌&&◌, nat_le, length, filter, is_none, Some, None, map, option_map};
 ghost use Rattle.enum_defs.specs.Shapes.{the_only};
-ghost use Rattle.std.specs.List.{list_any, list_all};
+ghost use Rattle.std.specs.List.{list_any};
 ghost use Rattle.json_value.specs.View.{kept_view};
 ghost use Rattle.schema_types.specs.View.{schema_view};
-ghost use Rattle.enum_defs.specs.Words.{same_type as same_type_of, without_same, without_lists, without_named};
+ghost use Rattle.enum_defs.specs.Words.{without_same, without_lists, without_named};
 ghost use Rattle.convert_defs.specs.Shapes.{option_member as option_member_of, one_null as one_null_of, is_plain_null as is_plain_null_of, is_odd_null as is_odd_null_of};
 ghost use Rattle.convert_defs.specs.Table.{one_null_member};
 ghost use Rattle.row_findings.specs.Given.{plain_view, same_view, lists_view, named_view, keywords_view, given_values_view, given_types_view};
@@ -12,7 +12,7 @@ ghost use Rattle.member_rows.specs.Members.{member_view, is_other};
 ghost use Rattle.schema_defs.specs.Schema.{many_types};
 
 use crate::members::Member;
-use enum_shapes::is_null_schema;
+use enum_shapes::{are_null_types, is_null_schema};
 use row_findings::{
     GivenTypes, GivenValues, Keywords, ValueKind, all_of, any_of, is_null, is_without_lists,
     is_without_named, is_without_same, keywords_of, same_type,
@@ -66,14 +66,6 @@ pub fn has_one_null(members: &[Member<'_>]) -> bool
         }
     }
     count == 1
-}
-
-fn are_null_types(kinds: &Vec<InstanceType>) -> bool
-    ensures { result ≡ list_all (same_type_of InstanceType.Null) kinds.now.items }
-{
-    kinds
-        .iter()
-        .all(|kind| same_type(InstanceType::Null, *kind))
 }
 
 #[tactic(auto, using(crate::proofs::PlainNulls::some_types))]

@@ -25,13 +25,13 @@ use crate::apart::{
     made_members, meet, meet_less, parts_of, set_apart, stand_for, two_lists, two_members,
 };
 use crate::how::{How, Scope};
-use crate::outside::{boxed, merges_beside, no_rest, too_few};
+use crate::outside::{boxed, merges_beside, too_few};
 use merge_apart::{Parted, unparted, whole};
 use merge_branches::{Branch, Kept, SameParts, none_kept};
 use merge_less::{Listed, Taken, Taking};
 use merge_lists::{Around, ListPlan, MergedPlaces, Pair, Places, at_end, goes_on, is_full};
 use merge_members::{
-    Bound, Entry, Gathered, MemberPlan, Members, RestPlan, none_gathered, or_false,
+    Bound, Entry, Gathered, MemberPlan, Members, RestPlan, no_rest, none_gathered, or_false,
 };
 use merge_parts::MergeNote;
 use merge_sides::{Asked, Bodies, Met, part_on};

@@ -2,7 +2,6 @@
 ghost use Rattle.std.specs.Prelude.{◌≡◌, [], Bool, IfOk, List, Some, option_map};
 ghost use Rattle.schema_types.specs.View.{maybe_view, schema_view};
 ghost use Rattle.merge_defs.specs.Outcome.{Note, Outcome, depth, fault};
-ghost use Rattle.merge_defs.specs.Objects.{is_false as is_false_of, no_rest as no_rest_of};
 ghost use Rattle.merge_apart.specs.View.{aside_view};
 ghost use Rattle.merge_members.specs.Plans.{some_schema};
 ghost use Rattle.merge_steps.specs.Ends.{Ends};
@@ -34,25 +33,6 @@ pub(crate) fn boxed(
     match schema {
         None => Ok(None),
         Some(schema) => Ok(Some(Box::new(alloc, schema)?)),
-    }
-}
-
-fn is_false(schema: &Schema) -> bool
-    ensures { result ≡ is_false_of (schema_view schema.now) }
-{
-    match schema {
-        Schema::Bool(b) => !*b,
-        Schema::Object(_) => false,
-    }
-}
-
-/// Whether nothing but its properties is admitted.
-pub(crate) fn no_rest(rest: &Option<Box<Schema>>) -> bool
-    ensures { result ≡ no_rest_of (maybe_view rest.now) }
-{
-    match rest {
-        None => false,
-        Some(rest) => is_false(rest),
     }
 }
 

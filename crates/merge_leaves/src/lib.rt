@@ -17,7 +17,10 @@ mod values;
 
 pub use formats::both_formats;
 pub use lists::{ListSizes, kept_lists, list_sizes, two_list_sizes};
-pub use members::{MemberSizes, MergedSizes, kept_named, member_sizes, two_member_sizes};
+pub use members::{
+    MemberSizes, MergedSizes, holds_no_schema, joined_names, kept_named, member_sizes,
+    two_member_sizes,
+};
 pub use names::{push_names, rising_names};
 pub use numbers::both_numbers;
 pub use texts::both_texts;

@@ -41,8 +41,9 @@ pub fn member_sizes(members: &ObjectValidation) -> MemberSizes<'_>
     }
 }
 
+/// The names of both sets, rising. Fails only for want of memory.
 #[tactic(auto, using(crate::proofs::Rising::all_of_two))]
-fn joined_names(
+pub fn joined_names(
     alloc: Global,
     first: &BTreeSet<String>,
     second: &BTreeSet<String>,
@@ -92,8 +93,9 @@ fn is_missing(schema: &Option<Box<Schema>>) -> bool
     schema.is_none()
 }
 
+/// Whether the keywords of members hold no schema. It takes no memory.
 #[tactic(auto, using(crate::proofs::Seen::held_parts))]
-fn holds_no_schema(members: &ObjectValidation) -> bool
+pub fn holds_no_schema(members: &ObjectValidation) -> bool
     ensures { result ≡ holds_no_schema_of (members_view members.now) }
 {
     let properties = names_none(&members.properties);

@@ -5,20 +5,20 @@ ghost use Rattle.json_value.specs.Value.{null};
 ghost use Rattle.schema_defs.specs.Admits.{counts_as_absent};
 ghost use Rattle.schema_defs.specs.Walks.{IsGuarded};
 ghost use Rattle.schema_defs.specs.declared.InstanceType.TheVariants.{Object};
-ghost use Rattle.schema_types.specs.View.{maybe_view, members_view, object_view, properties_view, schema_view, types_view};
+ghost use Rattle.schema_types.specs.View.{members_view, object_view, schema_view, types_view};
 ghost use Rattle.schema_types.specs.DocumentView.{document_view};
 ghost use Rattle.enum_defs.specs.Exclusive.{is_disjoint as is_disjoint_of};
 ghost use Rattle.enum_defs.specs.Kinds.{kinds as kinds_of};
 ghost use Rattle.enum_defs.specs.Words.{has_type, without_named};
 ghost use Rattle.merge_defs.specs.Less.{is_one_name as is_one_name_of, kinds_apart as kinds_apart_of, no_leaves as no_leaves_of, object_or_none as object_or_none_of, one_name_alone as one_name_alone_of, no_sizes, one_required as one_required_of, subschema_alone as subschema_alone_of, values_alone as values_alone_of};
-ghost use Rattle.merge_leaves.specs.Sizes.{holds_no_schema as holds_no_schema_of, is_missing as is_missing_of, member_sizes_view, names_none as names_none_of};
+ghost use Rattle.merge_leaves.specs.Sizes.{member_sizes_view};
 ghost use Rattle.schema_sameness.specs.Parts.{lists_in, named_in, plain_in, same_in};
 ghost use Rattle.merge_members.specs.Plans.{maybe_members};
 ghost use Rattle.merge_less.specs.Rows.{exact_by, exact_in, members_alone as members_alone_of, plain_alone as plain_alone_of};
 
 use crate::refusal::is_one_subschema;
-use enum_kinds::{KindSet, kinds};
-use merge_leaves::{MemberSizes, is_only, member_sizes};
+use enum_kinds::{KindSet, is_disjoint, kinds};
+use merge_leaves::{MemberSizes, holds_no_schema, is_only, member_sizes};
 use merge_sides::has_nulls;
 use schema_types::{Document, InstanceType, ObjectValidation, Schema, SchemaObject, Types};
 use std::collections::{BTreeMap, BTreeSet};
@@ -63,41 +63,11 @@ fn values_alone(object: &SchemaObject, taken: &SchemaObject) -> bool
 
 // ---- a required name
 
-#[tactic(auto, using(merge_leaves::proofs::Seen::none_named))]
-fn names_none(properties: &BTreeMap<String, Schema>) -> bool
-    ensures { result ≡ names_none_of (properties_view properties.now.entries) }
-{
-    properties.is_empty()
-}
-
-fn is_missing(schema: &Option<Box<Schema>>) -> bool
-    ensures { result ≡ is_missing_of (maybe_view schema.now) }
-{
-    schema.is_none()
-}
-
 #[tactic(auto, using(crate::proofs::Exactly::one_counted))]
 fn is_one_name(names: &BTreeSet<String>) -> bool
     ensures { result ≡ is_one_name_of (map string_bytes (keys names.now)) }
 {
     names.len() == 1
-}
-
-fn all_hold(first: bool, second: bool, third: bool, fourth: bool) -> bool
-    ensures { result ≡ (first && (second && (third && fourth))) }
-{
-    first && (second && (third && fourth))
-}
-
-#[tactic(auto, using(merge_leaves::proofs::Seen::held_parts))]
-fn holds_no_schema(members: &ObjectValidation) -> bool
-    ensures { result ≡ holds_no_schema_of (members_view members.now) }
-{
-    let properties = names_none(&members.properties);
-    let patterns = names_none(&members.pattern_properties);
-    let rest = is_missing(&members.additional_properties);
-    let names = is_missing(&members.property_names);
-    all_hold(properties, patterns, rest, names)
 }
 
 // One name, and no size.
@@ -158,18 +128,6 @@ fn name_alone(document: &Document, object: &SchemaObject, taken: &SchemaObject) 
 }
 
 // ---- kinds
-
-// Whether no kind is in both.
-fn is_disjoint(first: KindSet, second: KindSet) -> bool
-    ensures { result ≡ is_disjoint_of first second }
-{
-    !((first.null && second.null)
-        || (first.boolean && second.boolean)
-        || (first.number && second.number)
-        || (first.string && second.string)
-        || (first.array && second.array)
-        || (first.object && second.object))
-}
 
 fn kinds_differ(document: &Document, first: &Schema, second: &Schema) -> bool
     requires { IsGuarded (document_view document.now) }

@@ -134,8 +134,8 @@ fn bound_of(
     bound_by(alloc, one, first.rest, other, second.rest)
 }
 
-// Whether nothing but its properties is admitted.
-pub(crate) fn no_rest(rest: &Option<Box<Schema>>) -> bool
+/// Whether nothing but its properties is admitted. It takes no memory.
+pub fn no_rest(rest: &Option<Box<Schema>>) -> bool
     ensures { result ≡ no_rest_of (maybe_view rest.now) }
 {
     match rest {

@@ -8,7 +8,7 @@ mod made;
 mod plan;
 mod sides;
 
-pub use entries::bound_by_both;
+pub use entries::{bound_by_both, no_rest};
 pub use gathered::{Gathered, all_gathered, gather, none_gathered};
 pub use lookups::{is_among, property, push_properties};
 pub use made::{made_members, or_false};

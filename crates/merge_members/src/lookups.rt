@@ -125,19 +125,3 @@ pub(crate) fn names_of_both(
     let found = rising_names(alloc, names)?;
     Ok(found)
 }
-
-/// The names that one of both sides requires, rising.
-#[tactic(auto, using(merge_leaves::proofs::Rising::all_of_two))]
-pub(crate) fn needed_names(
-    alloc: Global,
-    first: &BTreeSet<String>,
-    second: &BTreeSet<String>,
-) -> Result<BTreeSet<String>, AllocError>
-    ensures { IfOk result (λ found. map string_bytes (keys found) ≡ all_names (map string_bytes (keys first.now)) (map string_bytes (keys second.now))) }
-{
-    let mut names = Vec::new(alloc);
-    push_names(&mut names, first)?;
-    push_names(&mut names, second)?;
-    let found = rising_names(alloc, names)?;
-    Ok(found)
-}

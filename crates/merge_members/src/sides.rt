@@ -12,9 +12,9 @@ ghost use Rattle.merge_members.specs.Plans.{entries_then, maybe_members, member_
 ghost use Rattle.merge_members.specs.Sides.{absent_needed, absent_of, absent_rest, framed_outcome, patterns_in, properties_in_both};
 
 use crate::entries::{Named, named_entries};
-use crate::lookups::{has_more, has_unnamed, names_of_both, needed_names, needs_more};
+use crate::lookups::{has_more, has_unnamed, names_of_both, needs_more};
 use crate::plan::{Entry, Frame, MemberPlan, Members, RestPlan};
-use merge_leaves::MergedSizes;
+use merge_leaves::{MergedSizes, joined_names};
 use merge_parts::{MergeKind, MergeNote, Way, note_both_ways, note_if};
 use merge_steps::Stop;
 use schema_types::{ObjectValidation, Schema};
@@ -278,7 +278,7 @@ fn both_members(
 ) -> Result<MemberPlan, Stop>
     ensures { (join : SchemaOf → SchemaOf → Outcome SchemaOf) → Goes (member_outcome join) (notes_view notes.old.items) (notes_view notes.new.items) (two_named join has_nulls is_object (members_view first) (members_view second)) result }
 {
-    let needed = needed_names(alloc, &first.required, &second.required)?;
+    let needed = joined_names(alloc, &first.required, &second.required)?;
     note_absent(notes, has_nulls, &needed, &first, &second)?;
     let is_dropped = has_either_patterns(&first, &second);
     note_both_ways(notes, is_dropped, MergeKind::Names)?;

@@ -1,6 +1,5 @@
 //! The row of texts.
-ghost use Rattle.std.specs.Prelude.{◌≡◌, IfOk, map, option_map, string_bytes};
-ghost use Rattle.schema_defs.specs.Layer.{format_of};
+ghost use Rattle.std.specs.Prelude.{◌≡◌, IfOk, map};
 ghost use Rattle.schema_defs.specs.Texts.{Relations};
 ghost use Rattle.convert_defs.specs.Row.{add_notes, asking};
 ghost use Rattle.convert_defs.specs.Scalars.{given_format as given_format_of, patterns_in, string_finding as string_finding_of, ruled_text as ruled_text_of, wanted_of};
@@ -9,21 +8,8 @@ ghost use Rattle.row_findings.specs.View.{note_view, leaf_view, patterns_view, f
 
 use row_findings::{Finding, Keywords, Leaf, Note, NoteKind, Patterns, Row, Way, noted, with_note};
 use schema_defs::Format;
+use schema_texts::format_named;
 use std::alloc::{AllocError, Global};
-
-fn format_named(name: &str) -> Option<Format>
-    ensures { result ≡ format_of name.now }
-{
-    match name {
-        "uuid" => Some(Format::Uuid),
-        "date" => Some(Format::Date),
-        "date-time" => Some(Format::DateTime),
-        "ip" => Some(Format::Ip),
-        "ipv4" => Some(Format::Ipv4),
-        "ipv6" => Some(Format::Ipv6),
-        _ => None,
-    }
-}
 
 /// The format of texts that stands. It takes no memory.
 pub fn given_format(keywords: &Keywords) -> Option<Format>

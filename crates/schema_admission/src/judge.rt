@@ -16,10 +16,11 @@ ghost use Rattle.schema_admission.specs.Judging.{admitted_count, list_agrees as 
 use crate::list::{
     at_place, is_distinct, is_passed_over, property_unless, rules_agree, text_value, unless,
 };
-use crate::plain::{all_of, counted, either, is_within};
+use crate::plain::{all_of, counted, either};
 use crate::reference::allowed;
 use crate::text::{has_any, plain_agrees};
 use crate::wanted::{Wanted, is_enough};
+use schema_texts::is_within;
 use schema_tree::{TextFault, Texts};
 use schema_types::{
     ArrayValidation, Document, Items, ObjectValidation, Schema, SchemaObject, Subschemas,

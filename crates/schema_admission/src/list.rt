@@ -11,8 +11,9 @@ ghost use Rattle.schema_defs.specs.Schema.{no_schema, schemas as schemas_in};
 ghost use Rattle.schema_types.specs.View.{maybe_view, members_view as members_seen, properties_view, schemas_view};
 ghost use Rattle.schema_admission.specs.Judging.{maybe_seen, place_schema, rules_part};
 
-use crate::plain::{both, is_within};
+use crate::plain::both;
 use json_value::same;
+use schema_texts::is_within;
 use schema_tree::TextFault;
 use schema_types::{ObjectValidation, Schema, Setting};
 use serde_json::Value;

@@ -1,7 +1,7 @@
 //! Keywords that hold no schema, but those of texts.
 ghost use Rattle.std.specs.Prelude.{◌≡◌, ◌&&◌, ◌||◌, ◌+◌, ◌<◌, ◌^◌, suc, if◌then◌else◌, pos, map, option_map, int_le, int_lt, int_rem};
 ghost use Rattle.std.specs.Ordering.{int_eq};
-ghost use Rattle.schema_defs.specs.Layer.{if_given, is_kind, is_listed as is_listed_in, number_format_agrees, numbers_agree as numbers_say, types_agree as types_say, within as within_both};
+ghost use Rattle.schema_defs.specs.Layer.{if_given, is_kind, is_listed as is_listed_in, number_format_agrees, numbers_agree as numbers_say, types_agree as types_say};
 ghost use Rattle.json_value.specs.View.{kept_view};
 ghost use Rattle.schema_types.specs.View.{numbers_view, types_view};
 ghost use Rattle.schema_admission.specs.Judging.{lies_in};
@@ -84,21 +84,6 @@ pub fn is_listed(values: &Option<Vec<Value>>, value: &Value) -> bool
         Some(values) => is_among(values, value),
         None => true,
     }
-}
-
-/// Whether a count lies between two bounds, where they stand.
-pub fn is_within(least: Option<u32>, most: Option<u32>, count: usize) -> bool
-    ensures { result ≡ within_both least most count }
-{
-    let enough = match least {
-        Some(least) => least as usize <= count,
-        None => true,
-    };
-    let few = match most {
-        Some(most) => count <= most as usize,
-        None => true,
-    };
-    enough && few
 }
 
 // No number but 0 is a multiple of 0.

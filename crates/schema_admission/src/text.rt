@@ -1,61 +1,22 @@
 //! Keywords of texts, and the keywords of one kind of value that hold no schema.
-ghost use Rattle.std.specs.Prelude.{◌≡◌, ◌≤◌, IfOk, IsErrOf, chars, length, map, option_map, string_bytes};
-ghost use Rattle.std.specs.List.{list_all};
+ghost use Rattle.std.specs.Prelude.{◌≡◌, ◌≤◌, IfOk, IsErrOf, option_map, string_bytes};
 ghost use Rattle.schema_defs.specs.Faults.{Rises};
-ghost use Rattle.schema_defs.specs.Layer.{format_of, if_given, has_any as has_any_in, text_format_agrees, texts_agree as texts_say};
+ghost use Rattle.schema_defs.specs.Layer.{if_given, has_any as has_any_in, text_format_agrees, texts_agree as texts_say};
 ghost use Rattle.json_value.specs.View.{kept_view};
 ghost use Rattle.schema_types.specs.View.{numbers_view, object_view, properties_view, texts_view};
 ghost use Rattle.schema_admission.specs.Judging.{kind_agrees as kind_says, number_agrees as number_says, plain_part, text_length};
 
-use crate::plain::{all_of, is_listed, is_within, number_has_format, numbers_agree, types_agree};
+use crate::plain::{all_of, is_listed, number_has_format, numbers_agree, types_agree};
+use schema_texts::{count_characters, format_named, has_each, is_within};
 use schema_tree::{Format, TextFault, Texts};
 use schema_types::{NumberValidation, Schema, SchemaObject, StringValidation, is_constant};
 use serde_json::Value;
 use std::collections::BTreeMap;
 
-fn text_format(name: &str) -> Option<Format>
-    ensures { result ≡ format_of name.now }
-{
-    match name {
-        "uuid" => Some(Format::Uuid),
-        "date" => Some(Format::Date),
-        "date-time" => Some(Format::DateTime),
-        "ip" => Some(Format::Ip),
-        "ipv4" => Some(Format::Ipv4),
-        "ipv6" => Some(Format::Ipv6),
-        _ => None,
-    }
-}
-
-fn count_characters(text: &str) -> usize
-    ensures { result ≡ length (chars text.now) }
-{
-    text.chars().count()
-}
-
 fn has_length(rules: &StringValidation, text: &str) -> bool
     ensures { result ≡ text_length text.now (texts_view rules.now) }
 {
     is_within(rules.min_length, rules.max_length, count_characters(text))
-}
-
-// Whether the text has each of the patterns.
-fn has_patterns<T: Texts>(
-    texts: &mut T,
-    patterns: &Vec<String>,
-    text: &str,
-) -> Result<bool, TextFault>
-    ensures answer { IfOk result (λ b. b ≡ list_all (λ p. (T.relations texts.old).matches p text.now) (map string_bytes patterns.now.items)) }
-    ensures keeps { T.relations texts.new ≡ T.relations texts.old }
-    ensures failed { IsErrOf result TextFault.Failed → Rises (T.faults texts.old) (T.faults texts.new) }
-    ensures counts { T.faults texts.old ≤ T.faults texts.new }
-{
-    for pattern in patterns {
-        if !texts.has_pattern(pattern, text)? {
-            return Ok(false);
-        }
-    }
-    Ok(true)
 }
 
 fn text_follows<T: Texts>(
@@ -70,7 +31,7 @@ fn text_follows<T: Texts>(
 {
     match rules {
         Some(rules) => {
-            let has_patterns = has_patterns(texts, &rules.patterns, text)?;
+            let has_patterns = has_each(&rules.patterns, text, texts)?;
             Ok(has_length(rules, text) && has_patterns)
         }
         None => Ok(true),
@@ -90,7 +51,7 @@ fn text_has_format<T: Texts>(
     let Some(name) = format else {
         return Ok(true);
     };
-    match text_format(name) {
+    match format_named(name) {
         Some(format) => {
             let answer = texts.has_format(format, text)?;
             Ok(answer)

@@ -184,8 +184,9 @@ fn kept_listed<'d, T: Texts>(
     Ok(kept)
 }
 
+/// The text, where the value is one. It takes no memory.
 #[tactic(auto, using(crate::proofs::TextsSeen::text_seen))]
-fn as_text(value: &Value) -> Option<&str>
+pub fn as_text(value: &Value) -> Option<&str>
     ensures { option_map (λ t. t.now) result ≡ as_text_of (kept_view value.now) }
 {
     value.as_str()

@@ -15,7 +15,7 @@ pub use build::{
 };
 pub use contents::{content, is_closed_struct};
 pub use items::as_item;
-pub use leaf::leaf_tree;
+pub use leaf::{as_text, leaf_tree};
 pub use lists::{alike_places, outside, with_field, with_place, with_variant};
 pub use reference::target_named;
 pub use texts::{asked_patterns, meets_texts};

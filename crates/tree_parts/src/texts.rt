@@ -1,13 +1,14 @@
 //! What the judge of texts is asked.
-ghost use Rattle.std.specs.Prelude.{◌≡◌, ◌≤◌, IfOk, IsErrOf, chars, length, map, option_map, string_bytes};
+ghost use Rattle.std.specs.Prelude.{◌≡◌, ◌≤◌, IfOk, IsErrOf, map, option_map, string_bytes};
 ghost use Rattle.std.specs.List.{list_all};
 ghost use Rattle.schema_defs.specs.Faults.{Rises};
-ghost use Rattle.schema_defs.specs.Layer.{if_given, within, texts_agree};
+ghost use Rattle.schema_defs.specs.Layer.{if_given, texts_agree};
 ghost use Rattle.schema_types.specs.View.{properties_view, texts_view};
 ghost use Rattle.convert_defs.specs.Owners.{pattern_names};
 ghost use Rattle.row_findings.specs.View.{patterns_view};
 
 use row_findings::Patterns;
+use schema_texts::{count_characters, has_each, is_within};
 use schema_tree::{TextFault, Texts};
 use schema_types::{Schema, StringValidation};
 use std::collections::BTreeMap;
@@ -60,41 +61,6 @@ fn are_named_patterns<T: Texts>(
 {
     for (pattern, _) in patterns.iter() {
         if !texts.is_pattern(pattern)? {
-            return Ok(false);
-        }
-    }
-    Ok(true)
-}
-
-fn is_within(least: Option<u32>, most: Option<u32>, count: usize) -> bool
-    ensures { result ≡ within least most count }
-{
-    let enough = match least {
-        Some(least) => least as usize <= count,
-        None => true,
-    };
-    let few = match most {
-        Some(most) => count <= most as usize,
-        None => true,
-    };
-    enough && few
-}
-
-fn count_characters(text: &str) -> usize
-    ensures { result ≡ length (chars text.now) }
-{
-    text.chars().count()
-}
-
-// Whether the text has each of the patterns.
-fn has_each<T: Texts>(patterns: &Vec<String>, text: &str, texts: &mut T) -> Result<bool, TextFault>
-    ensures answer { IfOk result (λ b. b ≡ list_all (λ p. (T.relations texts.old).matches p text.now) (map string_bytes patterns.now.items)) }
-    ensures keeps { T.relations texts.new ≡ T.relations texts.old }
-    ensures failed { IsErrOf result TextFault.Failed → Rises (T.faults texts.old) (T.faults texts.new) }
-    ensures counts { T.faults texts.old ≤ T.faults texts.new }
-{
-    for pattern in patterns {
-        if !texts.has_pattern(pattern, text)? {
             return Ok(false);
         }
     }

@@ -1,36 +1,16 @@
 //! Rules on values that were read.
-ghost use Rattle.std.specs.Prelude.{◌≡◌, ◌≤◌, ◌&&◌, IfOk, IsErrOf, chars, length, map, string_bytes};
+ghost use Rattle.std.specs.Prelude.{◌≡◌, ◌≤◌, ◌&&◌, IfOk, IsErrOf, map, string_bytes};
 ghost use Rattle.std.specs.List.{list_all, list_any};
 ghost use Rattle.schema_defs.specs.Faults.{Rises};
-ghost use Rattle.schema_defs.specs.Layer.{is_listed as is_listed_in, within};
+ghost use Rattle.schema_defs.specs.Layer.{is_listed as is_listed_in};
 ghost use Rattle.json_value.specs.View.{kept_view};
 ghost use Rattle.model_defs.specs.Layer.{has_one_of, rule_agrees as rule_says};
 ghost use Rattle.conversion_table.specs.Conversions.{rule_view};
 
 use conversion_table::Rule;
 use json_value::same;
-use schema_texts::{TextFault, Texts};
+use schema_texts::{TextFault, Texts, count_characters, is_within};
 use serde_json::Value;
-
-fn is_within(least: Option<u32>, most: Option<u32>, count: usize) -> bool
-    ensures { result ≡ within least most count }
-{
-    let enough = match least {
-        Some(least) => least as usize <= count,
-        None => true,
-    };
-    let few = match most {
-        Some(most) => count <= most as usize,
-        None => true,
-    };
-    enough && few
-}
-
-fn count_characters(text: &str) -> usize
-    ensures { result ≡ length (chars text.now) }
-{
-    text.chars().count()
-}
 
 // Whether the text has each of the patterns.
 fn has_each<T: Texts>(texts: &mut T, patterns: &[String], text: &str) -> Result<bool, TextFault>

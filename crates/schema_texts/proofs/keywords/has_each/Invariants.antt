@@ -1,6 +1,6 @@
 use Rattle.std.proofs.Common.{◌≡◌, ◌≤◌, drop, map, string_bytes}
 use Rattle.std.specs.List.{list_all}
-use Rattle.schema_admission.proofs.text.has_patterns.Given as goal
+use Rattle.schema_texts.proofs.keywords.has_each.Given as goal
 
 abbrev pub invariant-loop-pattern : goal.invariant-loop-pattern
 invariant-loop-pattern g l = record {
