@@ -24,6 +24,24 @@ Status: 0 a page was printed, 1 one line names a fault, 2 other words, 3 the inp
 
 const VERSION: &str = "typify 0.8.0";
 
+/// One line for standard error where standard output got no whole page: what the status may come of, and where to look.
+fn hint(status: u8) -> Option<&'static str> {
+    match status {
+        2 => Some(
+            "typify: there are other words than `check DEPTH [--null-absent]` and `items DEPTH [--null-absent]`, where DEPTH is from 1 to 512; `typify --help` says more",
+        ),
+        3 => Some(
+            "typify: the input isn't one JSON object with exactly the members `schema` and `values`, a list: it may be a bare schema, lack a member or have another, end early, begin with a byte order mark, be nested more than 127 deep, or be longer than 16,777,216 bytes",
+        ),
+        4 => Some("typify: reading standard input failed"),
+        5 => Some("typify: writing to standard output failed"),
+        6 => Some(
+            "typify: memory ran out, or more than 300 schemas stand in one another, or a value or a default is more than 1,000 levels deep",
+        ),
+        _ => None,
+    }
+}
+
 fn main(rt: HostRuntime) -> ExitCode {
     let alloc = rt.alloc();
     let words = match env::args(&rt) {
@@ -36,8 +54,8 @@ fn main(rt: HostRuntime) -> ExitCode {
     };
     if let [word] = words.as_slice() {
         let text = match word.as_str() {
-            "--help" => Some(HELP),
-            "--version" => Some(VERSION),
+            "--help" | "-h" | "help" => Some(HELP),
+            "--version" | "-V" => Some(VERSION),
             _ => None,
         };
         if let Some(text) = text {
@@ -51,5 +69,8 @@ fn main(rt: HostRuntime) -> ExitCode {
     let mut sink = StdSink::new(&rt);
     let mut texts = RegexTexts::new(alloc);
     let outcome = run(alloc, words.as_slice(), &mut source, &mut sink, &mut texts);
+    if let Some(line) = hint(outcome.status) {
+        let _ = eprintln!(rt; "{line}");
+    }
     ExitCode::from(outcome.status)
 }
