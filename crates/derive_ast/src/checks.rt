@@ -1,4 +1,6 @@
 //! The ten checks of a container, in order (serde.rs, attributes; serde_derive's own errors).
+//!
+//! Each module says why its check is there, with an example, and which of serde_derive's it is.
 ghost use Rattle.std.specs.Prelude.{◌≡◌, ◌++◌, OnOk, OnErr};
 ghost use Rattle.attr_parts.specs.Diagnostics.{diagnostics, TellsFront};
 ghost use Rattle.container_defs.specs.Checks.{checks_told, marked};

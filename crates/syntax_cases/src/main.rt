@@ -5,6 +5,8 @@
 //!   repeat, and a literal `BEFORE|INNERMOST|BEHIND`; behind it stands whether it is taken. `metas` is what a cursor over the metas of the text answers, and
 //!   `memory` what want of memory is printed as.
 //! - `## attributes`: attributes of an owner, kinds of diagnostics, and items with `Self` replaced (attributes.rt).
+//!
+//! Behind a name `long` says that these lines take a build without proofs too long.
 #![tactic(auto)]
 
 mod attributes;

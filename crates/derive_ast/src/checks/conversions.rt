@@ -1,4 +1,9 @@
-//! `from` and `try_from` don't go together.
+//! `from` and `try_from` don't go together (`check_from_and_try_from`).
+//!
+//! Each names the type that is read and then converted, and one type alone can be:
+//!
+//!     #[serde(from = "u8", try_from = "u16")]
+//!     struct Port(u16);
 ghost use Rattle.std.specs.Prelude.{◌≡◌, ◌++◌, OnOk, OnErr};
 ghost use Rattle.attr_parts.specs.Diagnostics.{diagnostics};
 ghost use Rattle.container_defs.specs.Checks.{check_from_and_try_from};

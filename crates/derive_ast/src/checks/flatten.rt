@@ -1,4 +1,11 @@
-//! What is flattened has a name.
+//! What is flattened has a name (`check_flatten`).
+//!
+//! The members of a flattened field stand among the members of what holds it. Where fields have no names
+//! there are no such members:
+//!
+//!     struct Outer(#[serde(flatten)] Inner);
+//!
+//! So it is told in a newtype and in a tuple, of a struct or of a variant.
 ghost use Rattle.std.specs.Prelude.{◌≡◌, ◌++◌, map, OnOk, OnErr};
 ghost use Rattle.std.specs.List.{flat_map};
 ghost use Rattle.attr_parts.specs.Diagnostics.{diagnostics, TellsFront};

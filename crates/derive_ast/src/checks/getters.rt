@@ -1,4 +1,12 @@
-//! Getters stand in structs that stand for remote ones.
+//! Getters stand in structs that stand for remote ones (`check_getter`).
+//!
+//! A getter reads a field of a remote struct that can't be reached by its name:
+//!
+//!     #[serde(remote = "Duration")]
+//!     struct DurationDef { #[serde(getter = "Duration::as_secs")] secs: u64 }
+//!
+//! A struct that stands for itself has its fields at hand, and those of an enum are reached by its
+//! variants. So a getter is told without `remote`, and in any enum.
 ghost use Rattle.std.specs.Prelude.{◌≡◌, ◌++◌, OnOk, OnErr};
 ghost use Rattle.attr_parts.specs.Diagnostics.{diagnostics};
 ghost use Rattle.container_defs.specs.Checks.{check_getter};

@@ -1,4 +1,15 @@
-//! `other`, and the variants of identifiers.
+//! `other`, and the variants of identifiers (`check_identifier`).
+//!
+//! A variant that is `other` is what each name is read as that no variant has. So it comes last, and there
+//! is no second one; and it is a unit variant. An enum without a tag reads no names, and has none.
+//!
+//! An identifier is read as a name and nothing else, so its variants are unit variants. In that of a
+//! field the last may be a newtype, which takes the names that are left as `other` does, and keeps them:
+//!
+//!     #[serde(field_identifier)]
+//!     enum Field { Id, Name, Unknown(String) }
+//!
+//! Were `Unknown` the first, it would be told. In that of a variant nothing is `other`.
 ghost use Rattle.std.specs.Prelude.{◌≡◌, ◌++◌, true, false, map, option_map, string_bytes, IfOk, OnOk, OnErr};
 ghost use Rattle.attr_parts.specs.Diagnostics.{diagnostics, kind_view, TellsFront};
 ghost use Rattle.attr_parts.specs.Values.{tag_view};

@@ -1,4 +1,17 @@
-//! A remote type has its arguments, or the item has parameters.
+//! A remote type has its arguments, or the item has parameters (`check_remote_generic`).
+//!
+//! An item may stand for a remote type whatever its arguments are. Then it has the parameters itself, and
+//! the path names the type alone:
+//!
+//!     #[serde(remote = "Pair")]
+//!     struct PairDef<T> { first: T, second: T }
+//!
+//! Or it stands for the type at certain arguments. Then the path has these, and the item no parameters:
+//!
+//!     #[serde(remote = "Pair<u8>")]
+//!     struct BytesDef { first: u8, second: u8 }
+//!
+//! An item with parameters whose path has arguments is told.
 ghost use Rattle.std.specs.Prelude.{◌≡◌, ◌++◌, Some, not, map, OnOk, OnErr};
 ghost use Rattle.syntax_trees.specs.Syntax.{has_no_arguments};
 ghost use Rattle.syntax_trees.specs.View.{path_view, segment_view};

@@ -1,4 +1,15 @@
-//! A variant with a function of its own skips nothing in that direction.
+//! A variant with a function of its own skips nothing in that direction (`check_variant_skip_attrs`).
+//!
+//! The function writes, or reads, the variant with all its fields. That one of them is skipped it wouldn't
+//! know:
+//!
+//!     enum Shape {
+//!         #[serde(serialize_with = "write_circle")]
+//!         Circle { #[serde(skip_serializing)] radius: u32 },
+//!     }
+//!
+//! So beside `serialize_with` are told `skip_serializing` of the variant or a field and
+//! `skip_serializing_if` of a field, and beside `deserialize_with` is told `skip_deserializing` of either.
 ghost use Rattle.std.specs.Prelude.{◌≡◌, ◌++◌, codes, map, is_some, string_bytes, IfOk, OnOk, OnErr};
 ghost use Rattle.std.specs.Fmt.{decimal};
 ghost use Rattle.std.specs.List.{flat_map};

@@ -1,4 +1,17 @@
-//! Names of tags, of contents, and of the fields beside them.
+//! Names of tags, of contents, and of the fields beside them (`check_internal_tag_field_name_conflict`,
+//! `check_adjacent_tag_conflict`).
+//!
+//! An internal tag is a member beside the fields of a struct variant. A field of its name would be a second
+//! member of one name where the variant is written, and either could be meant where it is read:
+//!
+//!     #[serde(tag = "kind")]
+//!     enum Event { Key { kind: u8 } }
+//!
+//! What isn't written has no name there, and what isn't read none here. For the same reason an adjacent
+//! tag and its content differ in name; this is told:
+//!
+//!     #[serde(tag = "t", content = "t")]
+//!     enum Event { Key(u8) }
 ghost use Rattle.std.specs.Prelude.{◌≡◌, ◌++◌, ◌||◌, bytes_eq, map, string_bytes, OnOk, OnErr};
 ghost use Rattle.std.specs.BTreeSet.{keys};
 ghost use Rattle.std.specs.List.{list_any};

@@ -1,4 +1,13 @@
-//! `transparent` stands on a struct with one field that counts, which is marked.
+//! `transparent` stands on a struct with one field that counts, which is marked (`check_transparent`).
+//!
+//! Such a struct is written and read as that field alone:
+//!
+//!     #[serde(transparent)]
+//!     struct Meters { value: u32, unit: PhantomData<Unit> }
+//!
+//! Here `value` is marked, since `PhantomData` never counts. Neither does a field that is skipped, nor, in
+//! reading, one with a default. An enum and a unit struct have no such field. `from`, `try_from` and `into`
+//! say by which other type the struct is read or written, so they don't stand beside it.
 ghost use Rattle.std.specs.Prelude.{◌≡◌, ◌++◌, bytes_eq, codes, cond, filter, map, OnOk, OnErr};
 ghost use Rattle.syntax_trees.specs.Syntax.{segment_name};
 ghost use Rattle.syntax_trees.specs.View.{ty as ty_view, path_view, segment_view};

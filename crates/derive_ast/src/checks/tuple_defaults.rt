@@ -1,4 +1,12 @@
-//! In a tuple struct fields without a default stand before all that have one.
+//! In a tuple struct fields without a default stand before all that have one (`check_default_on_tuple`).
+//!
+//! A list is read into a tuple struct place by place, and a field takes its default where the list has
+//! ended. Then the list has nothing for the fields after it either, so each of these needs a default:
+//!
+//!     struct Span(u32, #[serde(default)] u32, u32);
+//!
+//! Here the third field is told. A default of the whole struct serves every field, and a field that
+//! isn't read has one anyway.
 ghost use Rattle.std.specs.Prelude.{◌≡◌, ◌++◌, ◌&&◌, None, not, map, OnOk, OnErr};
 ghost use Rattle.attr_parts.specs.Diagnostics.{diagnostics, TellsFront};
 ghost use Rattle.container_defs.specs.Checks.{lacks, first_default, order_by, default_order_from, check_default_on_tuple};

@@ -1,0 +1,5 @@
+pub mod Types
+pub mod Readable
+pub mod Differ
+pub mod Nested
+pub mod Levels
