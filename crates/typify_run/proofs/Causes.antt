@@ -80,7 +80,7 @@ no_wide_number zero l (d ∷ ds) e h = no_wide_place (value_of d) l (both_true (
 no_wide_number (suc i) l (d ∷ ds) e h = no_wide_number i l ds (both_true (holds_i64_alone (value_of d)) (are_i64 ds) e).1 h.1
 
 -- no fault that a document has
-no_fault : (schema : Value) (f : FaultD) → IsAccepted schema → HasFault schema f → ⊥
+pub no_fault : (schema : Value) (f : FaultD) → IsAccepted schema → HasFault schema f → ⊥
 no_fault schema memory a h = h
 no_fault schema (malformed l k) a h = first_of_none (malformed_places schema) (l, k) a.1.readable.0.0 h
 no_fault schema (missing_ref l q) a h = first_of_none (bad_references schema) (l, q) a.1.readable.0.1 h.1
@@ -98,7 +98,7 @@ no_fault schema (invalid_schema l k) a h = h
 no_fault schema (unsupported l k) a h = h
 no_fault schema (texts l) a h = h
 
-no_wide : (ds : List Data) (f : FaultD) → are_i64 ds ≡ true → HasWideNumber ds f → ⊥
+pub no_wide : (ds : List Data) (f : FaultD) → are_i64 ds ≡ true → HasWideNumber ds f → ⊥
 no_wide ds (value_number i l) e h = no_wide_number i l ds e h
 no_wide ds memory e h = h
 no_wide ds (malformed l k) e h = h

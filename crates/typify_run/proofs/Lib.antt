@@ -8,3 +8,4 @@ pub mod Causes
 pub mod Calls
 pub mod Parted
 pub mod Statuses
+pub mod Plainly

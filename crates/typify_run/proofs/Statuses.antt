@@ -11,7 +11,7 @@ use Rattle.typify_run.specs.Call.{Call}
 use Rattle.typify_run.proofs.Causes.{no_cause}
 
 -- bytes are an input of one schema and one list of values
-one_input : (all : List ℕ) (p q : Parts) → IsInput all p → IsInput all q → p ≡ q
+pub one_input : (all : List ℕ) (p q : Parts) → IsInput all p → IsInput all q → p ≡ q
 one_input all p q a b =
     let same : a.read.0 ≡ b.read.0 = same_Some a.read.0 b.read.0 (sym a.read.1 ∙ b.read.1) in
     same_Some p q (sym a.read.2 ∙ ap parts_of same ∙ b.read.2)

@@ -5,3 +5,4 @@ pub mod Page
 pub mod Headline
 pub mod Examine
 pub mod Outcome
+pub mod PlainInputs

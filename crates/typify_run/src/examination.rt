@@ -16,6 +16,7 @@ ghost use Rattle.typify_run.specs.Verdicts.{AreVerdicts, IsUnjudged};
 ghost use Rattle.typify_run.specs.Examine.{as_it_stands, IsEmission, IsMadeOf, IsRefusal, IsUnreported, is_examined};
 ghost use Rattle.typify_run.specs.Headline.{IsReportOf, read_of};
 ghost use Rattle.typify_run.specs.Page.{ArePrintable};
+ghost use Rattle.typify_run.specs.PlainInputs.{IsPlainInput, IsRefusedPlainly};
 ghost use Rattle.derive_model.specs.VerdictView.{verdict_view};
 
 use crate::judging::{check_numbers, verdicts};
@@ -105,6 +106,8 @@ pub fn examine<T: Texts>(
     ensures examined { OnOk result (is_examined Setting.Strict (T.relations texts.old) depth (value_of (view document.now)) (map view values.now) ≡ true) }
     ensures accepted { OnOk result (IsAccepted (value_of (view document.now))) }
     ensures refused { IfErr result (λ f. IsRefusal Setting.Strict (T.relations texts.old) depth (T.faults texts.old) (T.faults texts.new) (value_of (view document.now)) (map view values.now) (fault_view f)) }
+    ensures plain_unnoted { IfOk result (λ r. IsPlainInput Setting.Strict depth (value_of (view document.now)) (map view values.now) → r.notes.items ≡ []) }
+    ensures plain_refused { IfErr result (λ f. IsRefusedPlainly Setting.Strict (T.relations texts.old) depth (T.faults texts.old) (T.faults texts.new) (value_of (view document.now)) (map view values.now) (fault_view f)) }
     ensures keeps { T.relations texts.new ≡ T.relations texts.old }
     ensures counts { T.faults texts.old ≤ T.faults texts.new }
 {
@@ -117,7 +120,7 @@ pub fn examine<T: Texts>(
 /// depend on the setting, then those of `converted`: the first in the order of conversion, and then the first value that a schema states, listed or as
 /// its default, and that isn't read (`InvalidValue`).
 /// `Texts` comes where the judge of texts failed: at the schema that asked it, or at the root where it failed at a value. Fails with `Memory`
-/// where memory runs out.
+/// where memory runs out. A document of plain rows alone (`IsPlain`) leaves no note, and is refused by these two alone.
 #[tactic(auto, using(crate::proofs::Causes::wide_refused, crate::proofs::Causes::unread_refused, crate::proofs::Causes::unreported_refused))]
 pub fn examine_with<T: Texts>(
     alloc: Global,
@@ -134,12 +137,14 @@ pub fn examine_with<T: Texts>(
     ensures examined { OnOk result (is_examined setting (T.relations texts.old) depth (value_of (view document.now)) (map view values.now) ≡ true) }
     ensures accepted { OnOk result (IsAccepted (value_of (view document.now))) }
     ensures refused { IfErr result (λ f. IsRefusal setting (T.relations texts.old) depth (T.faults texts.old) (T.faults texts.new) (value_of (view document.now)) (map view values.now) (fault_view f)) }
+    ensures plain_unnoted { IfOk result (λ r. IsPlainInput setting depth (value_of (view document.now)) (map view values.now) → r.notes.items ≡ []) }
+    ensures plain_refused { IfErr result (λ f. IsRefusedPlainly setting (T.relations texts.old) depth (T.faults texts.old) (T.faults texts.new) (value_of (view document.now)) (map view values.now) (fault_view f)) }
     ensures keeps { T.relations texts.new ≡ T.relations texts.old }
     ensures counts { T.faults texts.old ≤ T.faults texts.new }
 {
+    names_differ(document);
     check_values(alloc, values)?;
     let read = Document::read_with(alloc, document, setting)?;
-    names_differ(document);
     let report = report_of(alloc, &read, depth, values, texts)?;
     Ok(report)
 }

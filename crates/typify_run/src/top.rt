@@ -8,6 +8,7 @@ ghost use Rattle.run_input.specs.Input.{Parts, IsInput, IsNoInput, limit};
 ghost use Rattle.typify_run.specs.Outcome.{Answers, Ends, EndsReading, IsBare, IsCarried, IsCauseIn, IsCaused, IsCutShort, IsFaultPrinted, IsMemorySpent, IsPrinting, IsReportPrinted, IsReported, IsWritingCut, examined as examined_of, is_built, values_of};
 ghost use Rattle.typify_run.specs.Page.{ArePrintable};
 ghost use Rattle.derive_model.specs.VerdictView.{verdict_view};
+ghost use Rattle.typify_run.specs.PlainInputs.{EndsPlainly, IsFaultless, IsPlainCall, IsPrintedOrSpent};
 ghost use Rattle.typify_run.specs.Call.{Call, call, call_of};
 ghost use Rattle.typify_run.specs.Words.{depth_said};
 
@@ -197,6 +198,9 @@ pub fn run<S: Source, K: Sink, T: Texts>(
     ensures refused { (all : List ℕ) → S.left source.old ≡ Some all → IsNoInput all → (result.status ≡ 2) ⊎ ((result.status ≡ 3) ⊎ IsCutShort result.status) }
     ensures not_built { (all : List ℕ) (parts : Parts) → S.left source.old ≡ Some all → IsInput all parts → is_built (call_of (map string_bytes words.now) (T.relations texts.old) (T.faults texts.old) (T.faults texts.new)) parts ≡ false → (result.status ≡ 1) ⊎ ((result.status ≡ 2) ⊎ IsCutShort result.status) }
     ensures faulty { (all : List ℕ) (parts : Parts) (f : FaultD) → S.left source.old ≡ Some all → IsInput all parts → IsCauseIn (call_of (map string_bytes words.now) (T.relations texts.old) (T.faults texts.old) (T.faults texts.new)) parts f → (result.status ≡ 1) ⊎ ((result.status ≡ 2) ⊎ IsCutShort result.status) }
+    ensures plain { (all : List ℕ) (parts : Parts) → S.left source.old ≡ Some all → IsInput all parts → IsPlainCall (call_of (map string_bytes words.now) (T.relations texts.old) (T.faults texts.old) (T.faults texts.new)) parts → EndsPlainly (call_of (map string_bytes words.now) (T.relations texts.old) (T.faults texts.old) (T.faults texts.new)) parts (K.written sink.old) (K.written sink.new) result.status result.report result.fault }
+    ensures undisturbed { (all : List ℕ) (parts : Parts) → S.left source.old ≡ Some all → IsInput all parts → depth_said (map string_bytes words.now) ≢ None → IsFaultless (call_of (map string_bytes words.now) (T.relations texts.old) (T.faults texts.old) (T.faults texts.new)) parts → ¬ Rises (S.faults source.old) (S.faults source.new) → ¬ Rises (K.faults sink.old) (K.faults sink.new) → ¬ Rises (T.faults texts.old) (T.faults texts.new) → IsPrintedOrSpent result.status }
+    ensures plain_undisturbed { (all : List ℕ) (parts : Parts) → S.left source.old ≡ Some all → IsInput all parts → IsPlainCall (call_of (map string_bytes words.now) (T.relations texts.old) (T.faults texts.old) (T.faults texts.new)) parts → ¬ Rises (S.faults source.old) (S.faults source.new) → ¬ Rises (K.faults sink.old) (K.faults sink.new) → ¬ Rises (T.faults texts.old) (T.faults texts.new) → IsPrintedOrSpent result.status }
     ensures spent { (all : List ℕ) → S.left source.old ≡ Some all → IsPrinting result.status → S.left source.new ≡ Some [] }
     ensures kept_source { S.faults source.old ≤ S.faults source.new }
     ensures kept_sink { K.faults sink.old ≤ K.faults sink.new }

@@ -7,7 +7,9 @@ use Rattle.document_laws.specs.Laws.{WasRead}
 use Rattle.typify_run.proofs.Reported.{reported, all_printable}
 use Rattle.schema_tree.specs.Fault.{fault_view}
 use Rattle.typify_run.specs.Examine.{IsRefusal}
+use Rattle.typify_run.specs.PlainInputs.{IsRefusedPlainly}
 use Rattle.typify_run.proofs.Causes.{examined_so, told_of_fault, unreported_refused}
+use Rattle.typify_run.proofs.Plainly.{unnoted, wide_plainly, unread_plainly, unreported_plainly}
 use Rattle.typify_run.proofs.examination.examine_with.Goals as goal
 
 pub report_of-requires-clause-read : goal.report_of-requires-clause-read
@@ -59,3 +61,40 @@ returns-in_err-report-clause-refused g c =
     let fault = c.in_err-report.field-0.0 in
     told_of_fault c.from_residual-in_err-report.result fault (λ f. IsRefusal c.args.setting r c.args.depth before after schema values f) c.from_residual-in_err-report.ensures.1
     (unreported_refused c.args.setting r c.args.depth before after schema values (fault_view fault) (document_seen c.in_ok-read.read) c.in_ok-check_values.ensures.fine c.in_ok-read.ensures.document c.in_err-report.ensures.refused)
+
+-- ---- plain documents
+
+pub returns-clause-plain_unnoted : goal.returns-clause-plain_unnoted
+returns-clause-plain_unnoted g c = λ p.
+    unnoted c.args.setting c.args.depth (value_of (view c.args.document.now)) (map view c.args.values.now) p (g.T.Texts.relations c.args.texts.now) c.in_ok-report.report (returns-clause-emission g c)
+
+pub returns-in_err-check_values-clause-plain_refused : goal.returns-in_err-check_values-clause-plain_refused
+returns-in_err-check_values-clause-plain_refused g c =
+    let r = g.T.Texts.relations c.args.texts.now in
+    let faults = g.T.Texts.faults c.args.texts.now in
+    let schema = value_of (view c.args.document.now) in
+    let values = map view c.args.values.now in
+    let fault = c.in_err-check_values.field-0.0 in
+    told_of_fault c.from_residual-in_err-check_values.result fault (λ f. IsRefusedPlainly c.args.setting r c.args.depth faults faults schema values f) c.from_residual-in_err-check_values.ensures.1
+    (wide_plainly c.args.setting r c.args.depth faults faults schema values c.names_differ.ensures (fault_view fault) c.in_err-check_values.ensures.refusal)
+
+pub returns-in_err-read-clause-plain_refused : goal.returns-in_err-read-clause-plain_refused
+returns-in_err-read-clause-plain_refused g c =
+    let r = g.T.Texts.relations c.args.texts.now in
+    let faults = g.T.Texts.faults c.args.texts.now in
+    let schema = value_of (view c.args.document.now) in
+    let values = map view c.args.values.now in
+    let fault = c.in_err-read.field-0.0 in
+    told_of_fault c.from_residual-in_err-read.result fault (λ f. IsRefusedPlainly c.args.setting r c.args.depth faults faults schema values f) c.from_residual-in_err-read.ensures.1
+    (unread_plainly c.args.setting r c.args.depth faults faults schema values c.names_differ.ensures (fault_view fault) c.in_ok-check_values.ensures.fine c.in_err-read.ensures.refusal)
+
+pub returns-in_err-report-clause-plain_refused : goal.returns-in_err-report-clause-plain_refused
+returns-in_err-report-clause-plain_refused g c =
+    let r = g.T.Texts.relations c.args.texts.now in
+    let before = g.T.Texts.faults c.args.texts.now in
+    let after = g.T.Texts.faults c.report_of.new.texts in
+    let schema = value_of (view c.args.document.now) in
+    let values = map view c.args.values.now in
+    let fault = c.in_err-report.field-0.0 in
+    told_of_fault c.from_residual-in_err-report.result fault (λ f. IsRefusedPlainly c.args.setting r c.args.depth before after schema values f) c.from_residual-in_err-report.ensures.1
+    (unreported_plainly c.args.setting r c.args.depth before after schema values c.names_differ.ensures (fault_view fault) (document_seen c.in_ok-read.read) c.in_ok-check_values.ensures.fine c.in_ok-read.ensures.document c.in_err-report.ensures.refused)
