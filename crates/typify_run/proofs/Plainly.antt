@@ -2,7 +2,7 @@
 use Rattle.std.proofs.Common.{◌≡◌, ◌≢◌, inl, inr, ◌⊎◌, ℕ, zero, suc, ◌≤◌, List, [], ◌∷◌, map, Bool, true, false, Option, Some, None, refl, sym, ap, ◌∙◌, subst, arith}
 use Rattle.std.specs.Prelude.{if◌then◌else◌}
 use Rattle.std.proofs.lemmas.Option.{none-some, same_Some}
-use Rattle.run_io.specs.Bytes.{Rises}
+use Rattle.schema_defs.specs.Faults.{Rises}
 use Rattle.serde_json.specs.Data.{Data, object, array, no_items, item, member, no_members}
 use Rattle.json_value.specs.Value.{Value}
 use Rattle.json_value.specs.View.{value_of}

@@ -155,7 +155,7 @@ fn held_shape<'a>(segments: &[PathSegment], ty: &'a Ty) -> Shape<'a>
 }
 
 // A path from the root with two.
-#[tactic(auto, unfolding(model_defs::specs::Types::path_of_two))]
+#[tactic(auto, unfolding(type_spellings::specs::Types::path_of_two))]
 fn map_shape<'a>(segments: &[PathSegment], key: &'a Ty, value: &'a Ty) -> Shape<'a>
     ensures { shape_view result ≡ path_of_two (names_of segments.now) (type_in key.now) (type_in value.now) }
 {

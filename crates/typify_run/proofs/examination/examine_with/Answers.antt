@@ -75,7 +75,7 @@ returns-in_err-check_values-clause-plain_refused g c =
     let schema = value_of (view c.args.document.now) in
     let values = map view c.args.values.now in
     let fault = c.in_err-check_values.field-0.0 in
-    told_of_fault c.from_residual-in_err-check_values.result fault (λ f. IsRefusedPlainly c.args.setting r c.args.depth faults faults schema values f) c.from_residual-in_err-check_values.ensures.1
+    told_of_fault c.from_residual.result fault (λ f. IsRefusedPlainly c.args.setting r c.args.depth faults faults schema values f) c.from_residual.ensures.1
     (wide_plainly c.args.setting r c.args.depth faults faults schema values c.names_differ.ensures (fault_view fault) c.in_err-check_values.ensures.refusal)
 
 pub returns-in_err-read-clause-plain_refused : goal.returns-in_err-read-clause-plain_refused

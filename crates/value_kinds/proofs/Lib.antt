@@ -1,0 +1,4 @@
+pub mod Splits
+pub mod Found
+pub mod Graphs
+pub mod Turns

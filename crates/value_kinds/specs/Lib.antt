@@ -1,0 +1,4 @@
+pub mod Kinds
+pub mod Claims
+pub mod Rounds
+pub mod Examples
