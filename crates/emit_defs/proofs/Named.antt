@@ -7,7 +7,7 @@ use Rattle.model_defs.specs.Model.{TagModel, external_tag, internal_tag, adjacen
 use Rattle.entry_defs.specs.Entry.{Entry, boolean_entry, integer_entry, text_entry, native_entry, any_entry, unit_entry, option_entry, vec_entry, set_entry, map_entry, tuple_entry, array_entry, reference, item, Entries, no_entries, entry_then, entry_again, entries_of, Shape, struct_shape, enum_shape, newtype_shape, Fields, no_fields, field_then, field_again, rest_field, Rest, no_rest, rest, rest_of, Variants, no_variants, variant_then, Contents, unit_contents, newtype_contents, tuple_contents, struct_contents, fields_of}
 use Rattle.entry_defs.specs.Table.{ItemEntry, TargetEntry, items_in, items_in_shape, items_of, Among}
 use Rattle.entry_defs.specs.Sound.{Each, EachInShape}
-use Rattle.naming_defs.specs.Names.{Names, is_among, free_name, field_names, field_name, identified, identified_fields, identified_variants, variant_names, named, named_entries, named_shape, named_fields, named_variants, named_contents, item_name, keys, after_targets, named_targets, named_trees, named_table}
+use Rattle.naming_defs.specs.Names.{Names, is_among, free_name, is_value, taking, values, bound_is_good, field_names, field_name, identified, identified_fields, identified_within, identified_variants, variant_names, named, named_entries, named_shape, named_fields, named_variants, named_contents, item_name, keys, after_targets, named_targets, named_trees, named_table}
 use Rattle.naming_defs.proofs.Free.{free-name}
 use Rattle.naming_defs.proofs.Kept.{each-named, each-shape}
 use Rattle.entry_defs.proofs.Each.{in_entry, in_shape}
@@ -159,8 +159,9 @@ module _ (is_good : List ℕ → Bool) where
       fits_by closed fs (identified_fields is_good fs) (rest_of (identified_fields is_good fs)) (rest_may closed beside fs [] h) (rest_away beside fs [] [] tt tt (all_themselves beside)).1
       (λ x. lacks_identified x beside fs [])
 
-  -- ---- what is inside is named too
+-- ---- what is inside is named too
 
+module _ (is_good : List ℕ → Bool) where
   module _ (beside : Names) where
     one_kept : (es : Entries) (t : Names) → HasOne es → HasOne (named_entries is_good beside es t).1
     one_kept no_entries t h = h
@@ -217,16 +218,16 @@ module _ (is_good : List ℕ → Bool) where
     restless (field_then i n e s fs) t h = restless fs (named is_good beside e t).0 h
     restless (field_again i n fs) t h = restless fs t h
 
-    lacks_named : (x : List ℕ) (fs : Fields) (t : Names) → lacks x (named_fields is_good beside fs t).1 ≡ lacks x fs
+    lacks_named : (x : List ℕ) (fs : Fields) (t : Names) → lacks is_good x (named_fields is_good beside fs t).1 ≡ lacks is_good x fs
     lacks_named x no_fields t = refl
     lacks_named x (rest_field i e) t = refl
     lacks_named x (field_then i n e s fs) t = ap (λ b. not (bytes_eq n x) && b) (lacks_named x fs (named is_good beside e t).0)
     lacks_named x (field_again i n fs) t = ap (λ b. not (bytes_eq n x) && b) (lacks_named x fs t)
 
-    lacks_all : (x : List ℕ) (fs : Fields) (t : Names) → lacks x (identified_fields is_good (named_fields is_good beside fs t).1) ≡ lacks x fs
+    lacks_all : (x : List ℕ) (fs : Fields) (t : Names) → (let a = named_fields is_good beside fs t in lacks is_good x (identified_within is_good a.0 a.1)) ≡ lacks is_good x fs
     lacks_all x fs t =
-        let gs = (named_fields is_good beside fs t).1 in
-        lacks_identified x (field_names gs) gs [] ∙ lacks_named x fs t
+        let a = named_fields is_good beside fs t in
+        lacks_identified (bound_is_good is_good) x (field_names a.1) a.1 (values a.0) ∙ lacks_named x fs t
 
     contents_named : (c : Contents) (t : Names) → ContentsAreFormed c → ContentsAreFormed (named_contents is_good beside c t).1
     contents_named unit_contents t f = tt
@@ -236,8 +237,9 @@ module _ (is_good : List ℕ → Bool) where
         let many = as_many es t in
         (two_kept es t f.0, omega arith, entries_named es t f.2)
     contents_named (struct_contents fs) t f =
-        let gs = (named_fields is_good beside fs t).1 in
-        (no_rest_kept (field_names gs) gs [] (restless fs t f.0), fields_formed (field_names gs) gs [] (fields_named fs t f.1))
+        let a = named_fields is_good beside fs t in
+        let fits = bound_is_good is_good in
+        (no_rest_kept fits (field_names a.1) a.1 (values a.0) (restless fs t f.0), fields_formed fits (field_names a.1) a.1 (values a.0) (fields_named fs t f.1))
 
     beside_named : (tag : List ℕ) (c : Contents) (t : Names) → StandsBeside tag c → StandsBeside tag (named_contents is_good beside c t).1
     beside_named tag unit_contents t h = tt
@@ -311,7 +313,7 @@ module _ (is_good : List ℕ → Bool) (beside : Names) where
   targets_formed first (x ∷ xs) t h =
       let n = item_name is_good beside first x.led_to.name in (
         (naming_forms_shapes is_good beside t x.led_to.shape h.0.0, each-shape is_good beside Shaped Formed Anywhere Anywhere to_formed (λ q x. x) x.led_to.shape t h.0.1),
-        targets_formed (n ∷ first) xs (named_shape is_good beside x.led_to.shape t).0 h.1,
+        targets_formed (taking (is_value x.led_to.shape) n first) xs (named_shape is_good beside x.led_to.shape t).0 h.1,
       )
 
 abbrev IsOk : ItemEntry → Type 0

@@ -4,6 +4,7 @@ use Rattle.std.specs.List.{list_any}
 use Rattle.std.specs.Str.{chars, is_utf8}
 use Rattle.std.proofs.lemmas.List.{length-reverse, reverse-append}
 use Rattle.unicode_ident.proofs.Computing.{unicode_ident}
+use Rattle.unicode_normalization.proofs.Computing.{unicode_normalization}
 use Rattle.naming_defs.specs.Names.{Names, is_among, numbered, first_free, free_name, field_name}
 use Rattle.naming_defs.specs.Good.{is_good_name}
 use Rattle.free_names.specs.Free.{first_untaken}
@@ -47,7 +48,7 @@ taken_more old new mid then x left all h a b n =
 -- ---- `extra` is a good name
 
 pub extra-good : is_good_name (codes "extra") ≡ true
-unfolding chars is_utf8 unicode_ident lib.Utf8.encode
+unfolding chars is_utf8 unicode_ident unicode_normalization lib.Utf8.encode
 extra-good = refl
 
 -- ---- the identifier

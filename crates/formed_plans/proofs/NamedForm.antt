@@ -1,12 +1,12 @@
 -- What is formed stays so under names, where a rest that wants the name `extra` gets the one that it should have.
-use Rattle.std.proofs.Common.{◌≡◌, ℕ, List, [], ◌∷◌, ◌++◌, reverse, true, ◌&&◌, refl, sym, ap, ◌∙◌, subst, codes, append_assoc, append-nil}
+use Rattle.std.proofs.Common.{◌≡◌, ℕ, Bool, List, [], ◌∷◌, ◌++◌, reverse, true, ◌&&◌, refl, sym, ap, ◌∙◌, subst, codes, append_assoc, append-nil}
 use Rattle.std.proofs.lemmas.Slice.Eq.{bytes_eq-Decides}
 use Rattle.std.proofs.lemmas.Grind.{reverse_onto}
 use Rattle.std.specs.List.{AllByRecursion}
 use Rattle.model_defs.specs.Model.{TagModel}
 use Rattle.entry_defs.specs.Entry.{Entry, boolean_entry, integer_entry, text_entry, native_entry, any_entry, unit_entry, option_entry, vec_entry, set_entry, map_entry, tuple_entry, array_entry, reference, item, Entries, no_entries, entry_then, entry_again, Shape, struct_shape, enum_shape, newtype_shape, Fields, no_fields, field_then, field_again, rest_field, rest_of, Variants, no_variants, variant_then, Contents, unit_contents, newtype_contents, tuple_contents, struct_contents}
 use Rattle.entry_defs.specs.Table.{TargetEntry, Table}
-use Rattle.naming_defs.specs.Names.{Names, field_names, variant_names, field_name, identified, identified_fields, variant_name, identified_variants, item_name, named, named_entries, named_shape, named_fields, named_variants, named_contents, after_targets, named_targets, named_trees, keys, named_table}
+use Rattle.naming_defs.specs.Names.{Names, is_value, taking, values, bound_is_good, field_names, variant_names, field_name, identified, identified_fields, variant_name, identified_variants, item_name, named, named_entries, named_shape, named_fields, named_variants, named_contents, after_targets, named_targets, named_trees, keys, named_table}
 use Rattle.naming_defs.specs.Good.{is_good_name}
 use Rattle.entry_space.proofs.Keys.{first-true, second-true, both-true}
 use Rattle.space_trees.specs.Formed.{has_place, has_field, own_identifiers, rest_name, is_rest_of, rest_is_wanted, rest_is_named, has_no_rest, is_formed_by, are_formed_by, is_formed_shape_by, are_formed_fields_by, are_formed_variants_by, is_formed_contents_by, IsFormed}
@@ -48,24 +48,25 @@ rest-named fs h =
 
 -- ---- identifiers change nothing else
 
-has-identified : (taken beside : Names) (fs : Fields) → has_field (identified is_good_name taken beside fs) ≡ has_field fs
-has-identified taken beside no_fields = refl
-has-identified taken beside (field_then i n e s fs) = refl
-has-identified taken beside (field_again i n fs) = refl
-has-identified taken beside (rest_field i e) = refl
+module _ (fits : List ℕ → Bool) where
+  has-identified : (taken beside : Names) (fs : Fields) → has_field (identified fits taken beside fs) ≡ has_field fs
+  has-identified taken beside no_fields = refl
+  has-identified taken beside (field_then i n e s fs) = refl
+  has-identified taken beside (field_again i n fs) = refl
+  has-identified taken beside (rest_field i e) = refl
 
-formed-identified : (taken beside : Names) (fs : Fields) → are_formed_fields_by rest_is_named (identified is_good_name taken beside fs) ≡ are_formed_fields_by rest_is_named fs
-formed-identified taken beside no_fields = refl
-formed-identified taken beside (field_then i n e s fs) = ap (λ b. is_formed_by rest_is_named e && b) (formed-identified (field_name is_good_name taken beside n ∷ taken) beside fs)
-formed-identified taken beside (field_again i n fs) =
-    λ x. has-identified (field_name is_good_name taken beside n ∷ taken) beside fs x && formed-identified (field_name is_good_name taken beside n ∷ taken) beside fs x
-formed-identified taken beside (rest_field i e) = refl
+  formed-identified : (taken beside : Names) (fs : Fields) → are_formed_fields_by rest_is_named (identified fits taken beside fs) ≡ are_formed_fields_by rest_is_named fs
+  formed-identified taken beside no_fields = refl
+  formed-identified taken beside (field_then i n e s fs) = ap (λ b. is_formed_by rest_is_named e && b) (formed-identified (field_name fits taken beside n ∷ taken) beside fs)
+  formed-identified taken beside (field_again i n fs) =
+      λ x. has-identified (field_name fits taken beside n ∷ taken) beside fs x && formed-identified (field_name fits taken beside n ∷ taken) beside fs x
+  formed-identified taken beside (rest_field i e) = refl
 
-no-rest-identified : (taken beside : Names) (fs : Fields) → has_no_rest (rest_of (identified is_good_name taken beside fs)) ≡ has_no_rest (rest_of fs)
-no-rest-identified taken beside no_fields = refl
-no-rest-identified taken beside (field_then i n e s fs) = no-rest-identified (field_name is_good_name taken beside n ∷ taken) beside fs
-no-rest-identified taken beside (field_again i n fs) = no-rest-identified (field_name is_good_name taken beside n ∷ taken) beside fs
-no-rest-identified taken beside (rest_field i e) = refl
+  no-rest-identified : (taken beside : Names) (fs : Fields) → has_no_rest (rest_of (identified fits taken beside fs)) ≡ has_no_rest (rest_of fs)
+  no-rest-identified taken beside no_fields = refl
+  no-rest-identified taken beside (field_then i n e s fs) = no-rest-identified (field_name fits taken beside n ∷ taken) beside fs
+  no-rest-identified taken beside (field_again i n fs) = no-rest-identified (field_name fits taken beside n ∷ taken) beside fs
+  no-rest-identified taken beside (rest_field i e) = refl
 
 variants-identified : (tag : TagModel) (taken beside : Names) (ws : Variants) → are_formed_variants_by rest_is_named (identified_variants is_good_name tag taken beside ws) ≡ are_formed_variants_by rest_is_named ws
 variants-identified tag taken beside no_variants = refl
@@ -114,7 +115,7 @@ module _ (beside : Names) where
         both-true _ _ (formed-named k t (first-true (is_formed_by rest_is_wanted k) (is_formed_by rest_is_wanted e) h))
         (formed-named e (named is_good_name beside k t).0 (second-true (is_formed_by rest_is_wanted k) (is_formed_by rest_is_wanted e) h))
     formed-named (tuple_entry es) t h = entries-named es t h
-    formed-named (item n s) t h = shape-named s (item_name is_good_name beside t n ∷ t) h
+    formed-named (item n s) t h = shape-named s (taking (is_value s) (item_name is_good_name beside t n) t) h
 
     entries-named : (es : Entries) (t : Names) → are_formed_by rest_is_wanted es ≡ true → are_formed_by rest_is_named (named_entries is_good_name beside es t).1 ≡ true
     entries-named no_entries t h = refl
@@ -128,7 +129,7 @@ module _ (beside : Names) where
     shape-named (struct_shape closed fs) t h =
         let gs = (named_fields is_good_name beside fs t).1 in
         both-true _ _ (rest-named gs (wanted-named fs t ∙ first-true (rest_is_wanted fs) (are_formed_fields_by rest_is_wanted fs) h))
-        (formed-identified [] (field_names gs) gs ∙ fields-named fs t (second-true (rest_is_wanted fs) (are_formed_fields_by rest_is_wanted fs) h))
+        (formed-identified is_good_name [] (field_names gs) gs ∙ fields-named fs t (second-true (rest_is_wanted fs) (are_formed_fields_by rest_is_wanted fs) h))
     shape-named (enum_shape closed tag ws) t h =
         variants-identified tag [] (variant_names ws) (named_variants is_good_name beside ws t).1 ∙ variants-named ws t h
     shape-named (newtype_shape e rule) t h = formed-named e t h
@@ -153,15 +154,16 @@ module _ (beside : Names) where
     contents-named (newtype_contents e) t h = formed-named e t h
     contents-named (tuple_contents es) t h = entries-named es t h
     contents-named (struct_contents fs) t h =
-        let gs = (named_fields is_good_name beside fs t).1 in
-        both-true _ _ (no-rest-identified [] (field_names gs) gs ∙ no-rest-named fs t ∙ first-true (has_no_rest (rest_of fs)) (are_formed_fields_by rest_is_wanted fs) h)
-        (formed-identified [] (field_names gs) gs ∙ fields-named fs t (second-true (has_no_rest (rest_of fs)) (are_formed_fields_by rest_is_wanted fs) h))
+        let a = named_fields is_good_name beside fs t in
+        let fits = bound_is_good is_good_name in
+        both-true _ _ (no-rest-identified fits (values a.0) (field_names a.1) a.1 ∙ no-rest-named fs t ∙ first-true (has_no_rest (rest_of fs)) (are_formed_fields_by rest_is_wanted fs) h)
+        (formed-identified fits (values a.0) (field_names a.1) a.1 ∙ fields-named fs t (second-true (has_no_rest (rest_of fs)) (are_formed_fields_by rest_is_wanted fs) h))
 
   targets-named : (first : Names) (xs : List TargetEntry) (t : Names) → AllByRecursion (λ x. is_formed_shape_by rest_is_wanted x.led_to.shape ≡ true) xs
       → AllByRecursion (λ x. is_formed_shape_by rest_is_named x.led_to.shape ≡ true) (named_targets is_good_name beside first xs t).1
   targets-named first [] t h = tt
   targets-named first (x ∷ xs) t h =
-      (shape-named x.led_to.shape t h.0, targets-named (item_name is_good_name beside first x.led_to.name ∷ first) xs (named_shape is_good_name beside x.led_to.shape t).0 h.1)
+      (shape-named x.led_to.shape t h.0, targets-named (taking (is_value x.led_to.shape) (item_name is_good_name beside first x.led_to.name) first) xs (named_shape is_good_name beside x.led_to.shape t).0 h.1)
 
   trees-named : (es : List Entry) (t : Names) → AllByRecursion (λ e. is_formed_by rest_is_wanted e ≡ true) es
       → AllByRecursion (λ e. is_formed_by rest_is_named e ≡ true) (named_trees is_good_name beside es t).1

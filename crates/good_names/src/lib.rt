@@ -5,4 +5,4 @@ mod given;
 mod kept;
 
 pub use given::GivenNames;
-pub use kept::is_good_name;
+pub use kept::{is_bound_name, is_good_name, is_item_name};

@@ -1,6 +1,6 @@
--- Names of items, entered one after another, found and counted.
-use Rattle.std.proofs.Common.{◌≡◌, ℕ, suc, ◌+◌, ◌<◌, ◌≤◌, ◌||◌, List, [], ◌∷◌, map, drop, drop-cons, length, get_or, Bool, true, false, Option, Some, None, is_some, refl, sym, ap, ◌∙◌, arith}
-use Rattle.std.specs.Prelude.{bytes_eq, filter, if◌then◌else◌}
+-- Names of items, entered one after another and found.
+use Rattle.std.proofs.Common.{◌≡◌, ℕ, ◌+◌, ◌<◌, ◌≤◌, ◌||◌, List, [], ◌∷◌, map, drop, length, get_or, Bool, true, false, Option, Some, is_some, refl, sym, ap, ◌∙◌}
+use Rattle.std.specs.Prelude.{bytes_eq, if◌then◌else◌}
 use Rattle.std.specs.List.{list_any}
 use Rattle.std.proofs.lemmas.List.{drop_all}
 use Rattle.syntax_trees.specs.Item.{item_view}
@@ -9,8 +9,7 @@ use Rattle.name_tables.specs.Names.{Names, all_entered, entered, place_of}
 use Rattle.name_tables.proofs.Names.{entered_are_scanned}
 use Rattle.value_models.specs.Names.{at_one_place}
 use Rattle.value_models.proofs.Tables as tables
-use Rattle.container_defs.specs.Checks.{is_one}
-use Rattle.container_defs.specs.Forms.{names_of, is_empty}
+use Rattle.container_defs.specs.Forms.{names_of}
 
 abbrev pub name_in : DeriveInput → List ℕ
 name_in i = (item_view i).name.text
@@ -46,42 +45,3 @@ seen n (m ∷ ns) =
 
 pub found : (n : List ℕ) (ns : List (List ℕ)) (t : Names) (o : Option ℕ) (b : Bool) → t ≡ all_entered (at_one_place 0 ns) [] → o ≡ place_of n t → b ≡ is_some o → b ≡ list_any (bytes_eq n) ns
 found n ns t o b e p h = h ∙ ap is_some (p ∙ ap (place_of n) e ∙ entered_are_scanned n (at_one_place 0 ns)) ∙ seen n ns
-
--- ---- counting
-
--- whether one is left, where some was found or none
-abbrev pub one_left : {A : Type 0} → Bool → List A → Bool
-one_left true xs = is_empty xs
-one_left false xs = is_one xs
-
-first_is_one : {A : Type 0} (a : A) (xs : List A) → is_one (a ∷ xs) ≡ is_empty xs
-first_is_one a [] = refl
-first_is_one a (b ∷ xs) = refl
-
-abbrev pub left_of : List ℕ → List DeriveInput → List (List ℕ)
-left_of n is = filter (bytes_eq n) (names_in is)
-
-module _ (n : List ℕ) (is : List DeriveInput) (k : ℕ) (x : DeriveInput) (h : k < length is) (e : x ≡ get_or is k x) where
-  next : (b : Bool) → bytes_eq n (name_in x) ≡ b → left_of n (drop k is) ≡ (if b then name_in x ∷ left_of n (drop (k + 1) is) else left_of n (drop (k + 1) is))
-  next b q =
-      let more : suc k ≡ k + 1 = omega arith in
-      ap (left_of n) (drop-cons is k x h)
-      ∙ ap (λ y. left_of n (y ∷ drop (suc k) is)) (sym e)
-      ∙ ap (λ a. if a then name_in x ∷ left_of n (drop (suc k) is) else left_of n (drop (suc k) is)) q
-      ∙ ap (λ m. if b then name_in x ∷ left_of n (drop m is) else left_of n (drop m is)) more
-
-  pub passed : (found w : Bool) → bytes_eq n (name_in x) ≡ false → one_left found (left_of n (drop k is)) ≡ w → one_left found (left_of n (drop (k + 1) is)) ≡ w
-  passed found w q was = ap (one_left found) (sym (next false q)) ∙ was
-
-  pub first : (w : Bool) → bytes_eq n (name_in x) ≡ true → one_left false (left_of n (drop k is)) ≡ w → one_left true (left_of n (drop (k + 1) is)) ≡ w
-  first w q was = sym (first_is_one (name_in x) (left_of n (drop (k + 1) is))) ∙ ap (one_left false) (sym (next true q)) ∙ was
-
-  pub second : (w : Bool) → bytes_eq n (name_in x) ≡ true → one_left true (left_of n (drop k is)) ≡ w → false ≡ w
-  second w q was = ap (one_left true) (sym (next true q)) ∙ was
-
-none_left : (found : Bool) → one_left {A = List ℕ} found [] ≡ found
-none_left true = refl
-none_left false = refl
-
-pub single_end : (n : List ℕ) (is : List DeriveInput) (k : ℕ) (found w : Bool) → length is ≤ k → one_left found (left_of n (drop k is)) ≡ w → found ≡ w
-single_end n is k found w h was = sym (none_left found) ∙ ap (λ js. one_left found (left_of n js)) (sym (drop_all k is h)) ∙ was

@@ -1,8 +1,7 @@
 -- Types that are known, one level deep.
-use Rattle.std.proofs.Common.{◌≡◌, ℕ, suc, ◌+◌, ◌<◌, ◌≤◌, ◌&&◌, List, [], ◌∷◌, map, drop, drop-cons, length, get_or, Bool, true, false, Option, Some, None, is_some, refl, sym, ap, ◌∙◌, arith}
-use Rattle.std.proofs.lemmas.List.{drop_all}
+use Rattle.std.proofs.Common.{◌≡◌, ℕ, suc, ◌+◌, ◌<◌, ◌&&◌, List, drop, drop-cons, length, get_or, Bool, true, false, Option, Some, None, is_some, refl, sym, ap, ◌∙◌, arith}
 use Rattle.syntax_trees.specs.declared.tree.Ty.{Ty}
-use Rattle.type_spellings.specs.Types.{tuple_of, array_of, number_of}
+use Rattle.type_spellings.specs.Types.{tuple_of, array_of}
 use Rattle.model_defs.specs.Types.{TypeModel, TypeModels, no_types, type_then, types}
 use Rattle.value_types.specs.declared.rows.Plain.{Plain}
 use Rattle.value_types.specs.declared.rows.Plain.TheVariants.{Boolean, Whole, Signed, Text, Native, Any}

@@ -1,2 +1,3 @@
 pub mod EnteredNames
+pub mod Counted
 pub mod Knows

@@ -1,8 +1,9 @@
--- Names that an item, a field or a variant keeps: texts that spell identifiers and aren't words of Rust's own.
+-- Names that an item, a field or a variant keeps: texts that spell identifiers, as Rust composes them, and aren't words of Rust's own.
 use Rattle.std.specs.Prelude.{ℕ, ◌==◌, ◌&&◌, ◌||◌, not, List, [], ◌∷◌, Bool, false, bytes_eq, codes, chars}
 use Rattle.std.specs.List.{list_any, list_all}
 use Rattle.std.specs.Str.{is_utf8}
 use Rattle.unicode_ident.specs.Ident.{is_xid_start, is_xid_continue}
+use Rattle.unicode_normalization.specs.Forms.{is_nfc}
 use Rattle.naming_defs.specs.Laws.{HasGoodNumbers}
 
 -- an identifier by its characters (Unicode Standard Annex 31), which `_` may begin too
@@ -30,9 +31,13 @@ primitive_types =
 abbrev pub is_one_of : List (List ℕ) → List ℕ → Bool
 is_one_of words n = list_any (λ w. bytes_eq w n) words
 
+-- an identifier is what its characters compose to (NFC, Unicode Standard Annex 15), so that a text of another form is another name
+abbrev pub is_composed : List ℕ → Bool
+is_composed n = is_nfc (chars n)
+
 -- bytes that are no UTF-8 spell nothing
 abbrev pub is_good_name : List ℕ → Bool
-is_good_name n = is_utf8 n && spells_identifier (chars n) && not (is_one_of keywords n) && not (is_one_of primitive_types n)
+is_good_name n = is_utf8 n && spells_identifier (chars n) && is_composed n && not (is_one_of keywords n) && not (is_one_of primitive_types n)
 
 -- names that are numbered are good
 abbrev pub NumberedNamesAreGood : Type 0

@@ -1,3 +1,4 @@
+pub mod Derived
 pub mod Names
 pub mod Laws
 pub mod Good

@@ -1,12 +1,13 @@
 -- The items that references lead to: the names that their trees want, and what they hold.
-use Rattle.std.proofs.Common.{◌≡◌, ℕ, List, [], map, Bool, Option, None, option_map, Box, Vec, Global, codes, refl, sym, subst}
-use Rattle.entry_defs.specs.Entry.{Entry, option_entry, vec_entry, set_entry, array_entry, Shape, newtype_shape}
-use Rattle.naming_defs.specs.Names.{identified_fields}
+use Rattle.std.proofs.Common.{◌≡◌, ℕ, List, [], map, Bool, true, false, Option, None, option_map, Box, Vec, Global, codes, refl, sym, ap, subst}
+use Rattle.entry_defs.specs.Entry.{Entry, option_entry, vec_entry, set_entry, array_entry, Shape, struct_shape, newtype_shape}
+use Rattle.entry_defs.specs.Table.{ItemEntry}
+use Rattle.naming_defs.specs.Names.{is_value, identified_fields}
 use Rattle.naming_defs.specs.Good.{is_good_name}
-use Rattle.good_names.specs.Given.{Does, name_given}
+use Rattle.good_names.specs.Given.{Does, item_given}
 use Rattle.row_findings.specs.View.{tag_view}
 use Rattle.tree_types.specs.View.{label_view, rule_view, atom_view, wrapped, tree_view, rest_fields, item_in}
-use Rattle.tree_names.specs.Seen.{part_view, fields_of, parts_named, variant_view, variants_named, variants_identified, name_in, rest_named, item_named}
+use Rattle.tree_names.specs.Seen.{part_view, fields_of, parts_named, variant_view, variants_named, variants_identified, name_in, rest_named, item_named, item_given_to}
 use Rattle.good_names.specs.declared.given.GivenNames.{GivenNames}
 use Rattle.tree_types.specs.declared.tree.Label.{Label}
 use Rattle.tree_types.specs.declared.tree.Atom.{Atom}
@@ -28,37 +29,43 @@ T = codes "Type"
 
 -- ---- names
 
-label_of : (s r : GivenNames) (n : List ℕ) (d e : Entry) → e ≡ d → Does T s r n (name_given T (item_in d).name) → Does T s r n (name_given T (item_in e).name)
-label_of s r n d e q h = subst (λ (x : Entry). Does T s r n (name_given T (item_in x).name)) (sym q) h
+label_of : (s r : GivenNames) (n : List ℕ) (d e : Entry) → e ≡ d → Does T s r n (item_given_to (item_in d)) → Does T s r n (item_given_to (item_in e))
+label_of s r n d e q h = subst (λ (x : Entry). Does T s r n (item_given_to (item_in x))) (sym q) h
 
-no_name : (a : Atom) → [] ≡ (item_in (atom_view a)).name
-no_name atoms.Bool = refl
-no_name (atoms.Integer g) = refl
-no_name atoms.Text = refl
-no_name (atoms.Native f) = refl
-no_name atoms.Any = refl
-no_name atoms.Unit = refl
-no_name (atoms.Reference q) = refl
+held_alone : (a : Atom) → record { name = []; shape = newtype_shape (atom_view a) None } ≡ item_in (atom_view a)
+held_alone atoms.Bool = refl
+held_alone (atoms.Integer g) = refl
+held_alone atoms.Text = refl
+held_alone (atoms.Native f) = refl
+held_alone atoms.Any = refl
+held_alone atoms.Unit = refl
+held_alone (atoms.Reference q) = refl
 
-pub struct_label : (s r : GivenNames) (l k : Label) (c : Bool) (ps : Vec (FieldHead × Option Tree) Global) (o : Option (Label × Box Tree Global)) → Does T s r (label_view k) (name_given T (label_view l))
-    → Does T s r (label_view k) (name_given T (item_in (tree_view (trees.Struct l c ps o))).name)
-struct_label s r l k c ps o d = label_of s r (label_view k) _ (tree_view (trees.Struct l c ps o)) (struct_in_parts l c ps o) d
+pub struct_label : (s r : GivenNames) (l k : Label) (c bare : Bool) (ps : Vec (FieldHead × Option Tree) Global) (o : Option (Label × Box Tree Global))
+    → ((c : Bool) → bare ≡ is_value (struct_shape c (fields_of (map part_view ps.items) (rest_fields o)))) → Does T s r (label_view k) (item_given bare (label_view l))
+    → Does T s r (label_view k) (item_given_to (item_in (tree_view (trees.Struct l c ps o))))
+struct_label s r l k c bare ps o is d =
+    label_of s r (label_view k) _ (tree_view (trees.Struct l c ps o)) (struct_in_parts l c ps o) (subst (λ (x : Bool). Does T s r (label_view k) (item_given x (label_view l))) (is c) d)
 
-pub enum_label : (s r : GivenNames) (l k : Label) (c : Bool) (t : TagRow) (ws : Vec (VariantHead × Vec (FieldHead × Option Tree) Global) Global) → Does T s r (label_view k) (name_given T (label_view l))
-    → Does T s r (label_view k) (name_given T (item_in (tree_view (trees.Enum l c t ws))).name)
+pub struct_told : (s r : GivenNames) (x : Tree) (l k : Label) (c bare : Bool) (ps : Vec (FieldHead × Option Tree) Global) (o : Option (Label × Box Tree Global)) → x ≡ trees.Struct l c ps o
+    → ((c : Bool) → bare ≡ is_value (struct_shape c (fields_of (map part_view ps.items) (rest_fields o)))) → Does T s r (label_view k) (item_given bare (label_view l)) → Does T s r (label_view k) (item_given_to (item_in (tree_view x)))
+struct_told s r x l k c bare ps o e is d = subst (λ (z : Tree). Does T s r (label_view k) (item_given_to (item_in (tree_view z)))) (sym e) (struct_label s r l k c bare ps o is d)
+
+pub enum_label : (s r : GivenNames) (l k : Label) (c : Bool) (t : TagRow) (ws : Vec (VariantHead × Vec (FieldHead × Option Tree) Global) Global) → Does T s r (label_view k) (item_given false (label_view l))
+    → Does T s r (label_view k) (item_given_to (item_in (tree_view (trees.Enum l c t ws))))
 enum_label s r l k c t ws d = label_of s r (label_view k) _ (tree_view (trees.Enum l c t ws)) (enum_in_parts l c t ws) d
 
-pub one_label : (s r : GivenNames) (k : Label) (w : Wrap) (b : Box Tree Global) → Does T s r (label_view k) (name_given T (item_in (wrapped w (tree_view b.value))).name)
-    → Does T s r (label_view k) (name_given T (item_in (tree_view (trees.One w b))).name)
+pub one_label : (s r : GivenNames) (k : Label) (w : Wrap) (b : Box Tree Global) → Does T s r (label_view k) (item_given_to (item_in (wrapped w (tree_view b.value))))
+    → Does T s r (label_view k) (item_given_to (item_in (tree_view (trees.One w b))))
 one_label s r k w b d = label_of s r (label_view k) (wrapped w (tree_view b.value)) (tree_view (trees.One w b)) (one_seen w b) d
 
-pub atom_label : (s r : GivenNames) (k : Label) (a : Atom) → Does T s r (label_view k) (name_given T []) → Does T s r (label_view k) (name_given T (item_in (tree_view (trees.Atom a))).name)
-atom_label s r k a d = label_of s r (label_view k) (atom_view a) (tree_view (trees.Atom a)) (atom_seen a) (subst (λ (n : List ℕ). Does T s r (label_view k) (name_given T n)) (no_name a) d)
+pub atom_label : (s r : GivenNames) (k : Label) (a : Atom) → Does T s r (label_view k) (item_given true []) → Does T s r (label_view k) (item_given_to (item_in (tree_view (trees.Atom a))))
+atom_label s r k a d = label_of s r (label_view k) (atom_view a) (tree_view (trees.Atom a)) (atom_seen a) (subst (λ (i : ItemEntry). Does T s r (label_view k) (item_given_to i)) (held_alone a) d)
 
-pub map_label : (s r : GivenNames) (k : Label) (x y : Box Tree Global) → Does T s r (label_view k) (name_given T []) → Does T s r (label_view k) (name_given T (item_in (tree_view (trees.Map x y))).name)
+pub map_label : (s r : GivenNames) (k : Label) (x y : Box Tree Global) → Does T s r (label_view k) (item_given true []) → Does T s r (label_view k) (item_given_to (item_in (tree_view (trees.Map x y))))
 map_label s r k x y d = label_of s r (label_view k) _ (tree_view (trees.Map x y)) (map_seen x y) d
 
-pub tuple_label : (s r : GivenNames) (k : Label) (ps : Vec (FieldHead × Option Tree) Global) → Does T s r (label_view k) (name_given T []) → Does T s r (label_view k) (name_given T (item_in (tree_view (trees.Tuple ps))).name)
+pub tuple_label : (s r : GivenNames) (k : Label) (ps : Vec (FieldHead × Option Tree) Global) → Does T s r (label_view k) (item_given true []) → Does T s r (label_view k) (item_given_to (item_in (tree_view (trees.Tuple ps))))
 tuple_label s r k ps d = label_of s r (label_view k) _ (tree_view (trees.Tuple ps)) (tuple_in_parts ps) d
 
 -- ---- what they hold
@@ -100,13 +107,7 @@ held_by : (e d : Entry) → e ≡ d → newtype_shape d None ≡ (item_in d).sha
 held_by e d q h = subst (λ (x : Entry). newtype_shape x None ≡ (item_in x).shape) (sym q) h
 
 atom_held : (a : Atom) → newtype_shape (atom_view a) None ≡ (item_in (atom_view a)).shape
-atom_held atoms.Bool = refl
-atom_held (atoms.Integer g) = refl
-atom_held atoms.Text = refl
-atom_held (atoms.Native f) = refl
-atom_held atoms.Any = refl
-atom_held atoms.Unit = refl
-atom_held (atoms.Reference q) = refl
+atom_held a = ap (λ (i : ItemEntry). i.shape) (held_alone a)
 
 module _ (s r : GivenNames) (y : Entry) (n : List ℕ) where
   pub atom_led : (a : Atom) → Does T s r y (item_named n (newtype_shape (tree_view (trees.Atom a)) (option_map rule_view None))) → Does T s r y (item_named n (item_in (tree_view (trees.Atom a))).shape)

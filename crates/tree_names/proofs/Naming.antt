@@ -2,11 +2,11 @@
 use Rattle.std.proofs.Common.{◌≡◌, ℕ, List, [], ◌∷◌, map, Bool, Option, Some, None, refl, sym, ap, ◌∙◌}
 use Rattle.model_defs.specs.Model.{TagModel, external_tag, internal_tag, adjacent_tag, untagged}
 use Rattle.entry_defs.specs.Entry.{Entry, Fields, no_fields, field_then, field_again, entry_then, entry_again, struct_shape, enum_shape, variant_then, tuple_contents, struct_contents}
-use Rattle.naming_defs.specs.Names.{Names, field_names, variant_names, name_by, field_name, identified, identified_fields, variant_name, identified_variants, named, named_entries, named_shape, named_fields, named_variants, named_contents}
+use Rattle.naming_defs.specs.Names.{Names, field_names, identifiers, variant_names, name_by, values, bound, bound_is_good, field_name, identified, identified_fields, identified_within, variant_name, identified_variants, named, named_entries, named_shape, named_fields, named_variants, named_contents}
 use Rattle.naming_defs.specs.Good.{is_good_name}
 use Rattle.tree_types.specs.declared.tree.ContentKind.{ContentKind}
 use Rattle.tree_types.specs.declared.tree.ContentKind.TheVariants as kinds
-use Rattle.tree_names.specs.Seen.{PartD, places_of, fields_of, contents_of, names_of, parts_named, parts_identified, contents_named, VariantD, variants_of, variants_named, name_in, variants_identified}
+use Rattle.tree_names.specs.Seen.{PartD, places_of, fields_of, contents_of, names_of, identifiers_of, parts_named, parts_identified_by, parts_identified, parts_bound, contents_named, VariantD, variants_of, variants_named, name_in, variants_identified}
 
 -- ---- parts
 
@@ -37,16 +37,16 @@ module _ (b : Names) where
 
   -- ---- identifiers of fields
 
-  abbrev FieldsIdentified : List PartD → Fields → Names → Type 0
-  FieldsIdentified ps more u = let a = parts_identified ps b u in identified is_good_name u b (fields_of ps more) ≡ fields_of a.1 (identified is_good_name a.0 b more)
+  abbrev FieldsIdentified : (List ℕ → Bool) → List PartD → Fields → Names → Type 0
+  FieldsIdentified fits ps more u = let a = parts_identified_by fits ps b u in identified fits u b (fields_of ps more) ≡ fields_of a.1 (identified fits a.0 b more)
 
-  pub fields_identified : (ps : List PartD) (more : Fields) (u : Names) → FieldsIdentified ps more u
-  fields_identified [] more u = refl
-  fields_identified (p ∷ ps) more u = one p.entry (λ w. fields_identified ps more w)
+  pub fields_identified : (fits : List ℕ → Bool) (ps : List PartD) (more : Fields) (u : Names) → FieldsIdentified fits ps more u
+  fields_identified fits [] more u = refl
+  fields_identified fits (p ∷ ps) more u = one p.entry (λ w. fields_identified fits ps more w)
     where
-      one : (o : Option Entry) → ((w : Names) → FieldsIdentified ps more w) → FieldsIdentified (record p { entry = o } ∷ ps) more u
-      one None h = let n = field_name is_good_name u b p.name in ap (λ z. field_again n p.name z) (h (n ∷ u))
-      one (Some e) h = let n = field_name is_good_name u b p.name in ap (λ z. field_then n p.name e p.state z) (h (n ∷ u))
+      one : (o : Option Entry) → ((w : Names) → FieldsIdentified fits ps more w) → FieldsIdentified fits (record p { entry = o } ∷ ps) more u
+      one None h = let n = field_name fits u b p.name in ap (λ z. field_again n p.name z) (h (n ∷ u))
+      one (Some e) h = let n = field_name fits u b p.name in ap (λ z. field_then n p.name e p.state z) (h (n ∷ u))
 
 pub names_are : (ps : List PartD) (more : Fields) → field_names more ≡ [] → field_names (fields_of ps more) ≡ names_of ps
 names_are [] more h = h
@@ -59,7 +59,20 @@ names_are (p ∷ ps) more h = one p.entry (names_are ps more h)
 -- the identifiers of a struct's fields, and of its rest
 pub all_identified : (ps : List PartD) (more : Fields) → field_names more ≡ []
     → identified_fields is_good_name (fields_of ps more) ≡ (let a = parts_identified ps (names_of ps) [] in fields_of a.1 (identified is_good_name a.0 (names_of ps) more))
-all_identified ps more h = ap (λ ns. identified is_good_name [] ns (fields_of ps more)) (names_are ps more h) ∙ fields_identified (names_of ps) ps more []
+all_identified ps more h = ap (λ ns. identified is_good_name [] ns (fields_of ps more)) (names_are ps more h) ∙ fields_identified (names_of ps) is_good_name ps more []
+
+-- those of a variant's, which patterns bind
+pub all_bound : (ps : List PartD) (t : Names) → identified_within is_good_name t (fields_of ps no_fields) ≡ fields_of (parts_bound ps (names_of ps) (values t)).1 no_fields
+all_bound ps t =
+    ap (λ ns. identified (bound_is_good is_good_name) (values t) ns (fields_of ps no_fields)) (names_are ps no_fields refl) ∙ fields_identified (names_of ps) (bound_is_good is_good_name) ps no_fields (values t)
+
+pub identifiers_are : (ps : List PartD) → identifiers (fields_of ps no_fields) ≡ identifiers_of ps
+identifiers_are [] = refl
+identifiers_are (p ∷ ps) = one p.entry (identifiers_are ps)
+  where
+    one : (o : Option Entry) → identifiers (fields_of ps no_fields) ≡ identifiers_of ps → identifiers (fields_of (record p { entry = o } ∷ ps) no_fields) ≡ p.identifier ∷ identifiers_of ps
+    one None h = ap (λ z. p.identifier ∷ z) h
+    one (Some e) h = ap (λ z. p.identifier ∷ z) h
 
 -- ---- contents
 
@@ -78,8 +91,10 @@ module _ (b : Names) where
   contents_are_named kinds.Tuple ps t = ap (λ z. (z.0, tuple_contents z.1)) (places_named b ps t)
   contents_are_named kinds.Struct ps t =
       let a = parts_named ps b t in
-      ap (λ z. (z.0, struct_contents (identified_fields is_good_name z.1))) (fields_named b ps no_fields t)
-      ∙ ap (λ z. (a.0, struct_contents z)) (all_identified a.1 no_fields refl)
+      let c = (parts_bound a.1 (names_of a.1) (values a.0)).1 in
+      ap (λ z. (let gs = identified_within is_good_name z.0 z.1 in (bound (identifiers gs) z.0, struct_contents gs))) (fields_named b ps no_fields t)
+      ∙ ap (λ z. (bound (identifiers z) a.0, struct_contents z)) (all_bound a.1 a.0)
+      ∙ ap (λ z. (bound z a.0, struct_contents (fields_of c no_fields))) (identifiers_are c)
 
   -- ---- variants
 

@@ -1,8 +1,8 @@
 -- Trees as they are seen, part by part.
-use Rattle.std.proofs.Common.{◌≡◌, List, [], ◌∷◌, map, Bool, Option, Some, None, Box, Vec, Global, refl, ap, ◌∙◌}
+use Rattle.std.proofs.Common.{◌≡◌, List, [], ◌∷◌, map, slice_get, Bool, true, false, Option, Some, None, Box, Vec, Global, refl, ap, ◌∙◌}
 use Rattle.model_defs.specs.Model.{TagModel}
 use Rattle.entry_defs.specs.Entry.{entry_then, entry_again, tuple_entry, item, struct_shape, enum_shape, Fields, no_fields, field_then, field_again, variant_then, newtype_contents, tuple_contents, struct_contents}
-use Rattle.naming_defs.specs.Names.{name_by}
+use Rattle.naming_defs.specs.Names.{name_by, is_value}
 use Rattle.row_findings.specs.View.{state_view, tag_view}
 use Rattle.tree_types.specs.View.{label_view, places_view, fields_view, first_part, contents_view, variants_view, tree_view, parts_of, cases_of, rest_fields}
 use Rattle.tree_names.specs.Seen.{part_view, places_of, fields_of, first_of, contents_of, variant_view, variants_of}
@@ -52,3 +52,26 @@ struct_in_parts l c ps r = struct_seen l c ps r ∙ ap (λ z. item (label_view l
 pub enum_in_parts : (l : Label) (c : Bool) (t : TagRow) (ws : Vec (VariantHead × Vec (FieldHead × Option Tree) Global) Global)
     → tree_view (trees.Enum l c t ws) ≡ item (label_view l) (enum_shape c (tag_view t) (variants_of (tag_view t) (map variant_view ws.items)))
 enum_in_parts l c t ws = enum_seen l c t ws ∙ ap (λ z. item (label_view l) (enum_shape c (tag_view t) z)) (variants_seen (tag_view t) ws.items)
+
+-- ---- structs without fields
+
+pub without_rest : (o : Option (Label × Box Tree Global)) → o ≡ None → (closed : Bool) → true ≡ is_value (struct_shape closed (rest_fields o))
+without_rest None e closed = refl
+without_rest (Some r) e closed = absurd cc
+
+pub with_rest : (o : Option (Label × Box Tree Global)) (r : Label × Box Tree Global) → o ≡ Some r → (closed : Bool) → false ≡ is_value (struct_shape closed (rest_fields o))
+with_rest None r e closed = absurd cc
+with_rest (Some q) r e closed = refl
+
+pub with_field : (ps all : List (FieldHead × Option Tree)) (p : FieldHead × Option Tree) (o : Option (Label × Box Tree Global)) → ps ≡ all → slice_get ps 0 ≡ Some p
+    → (closed : Bool) → false ≡ is_value (struct_shape closed (fields_of (map part_view all) (rest_fields o)))
+with_field [] all p o same e closed = absurd cc
+with_field (q ∷ ps) [] p o same e closed = absurd cc
+with_field (q ∷ ps) ((h, None) ∷ all) p o same e closed = refl
+with_field (q ∷ ps) ((h, Some x) ∷ all) p o same e closed = refl
+
+pub without_field : (ps all : List (FieldHead × Option Tree)) (o : Option (Label × Box Tree Global)) (b : Bool) → ps ≡ all → slice_get ps 0 ≡ None
+    → ((closed : Bool) → b ≡ is_value (struct_shape closed (rest_fields o))) → (closed : Bool) → b ≡ is_value (struct_shape closed (fields_of (map part_view all) (rest_fields o)))
+without_field [] [] o b same e h closed = h closed
+without_field [] (q ∷ all) o b same e h closed = absurd cc
+without_field (q ∷ ps) all o b same e h closed = absurd cc

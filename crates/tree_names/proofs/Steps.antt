@@ -1,19 +1,19 @@
 -- Namings one after another.
-use Rattle.std.proofs.Common.{◌≡◌, ◌<◌, ◌≤◌, ◌+◌, ℕ, List, [], ◌∷◌, ◌++◌, map, length, take, get_or, refl, sym, ap, ◌∙◌, subst, append_assoc, append-nil}
+use Rattle.std.proofs.Common.{◌≡◌, ◌<◌, ◌≤◌, ◌+◌, ℕ, List, [], ◌∷◌, ◌++◌, map, length, take, get_or, refl, sym, Bool, ap, ◌∙◌, subst, append_assoc, append-nil}
 use Rattle.std.proofs.lemmas.List.{take_more, take_all, map-append}
 use Rattle.naming_defs.specs.Names.{Names}
-use Rattle.good_names.specs.Given.{Stands, Named, Does}
+use Rattle.good_names.specs.Given.{StandsWithin, Stands, Named, DoesWithin, Does}
 use Rattle.tree_names.specs.Seen.{each}
 use Rattle.good_names.specs.declared.given.GivenNames.{GivenNames}
 
 -- ---- one after another
 
 -- nothing is named
-pub does_nothing : {Y : Type 0} (p : List ℕ) (s : GivenNames) (y z : Y) → y ≡ z → Does p s s y (λ b t. (t, z))
+pub does_nothing : {off : List ℕ → Bool} {Y : Type 0} (p : List ℕ) (s : GivenNames) (y z : Y) → y ≡ z → DoesWithin off p s s y (λ b t. (t, z))
 does_nothing p s y z e = record { step = λ b t st. (e, st) }
 
 -- what is made of what was named
-pub does_wrapped : {Y Z : Type 0} (p : List ℕ) (s r : GivenNames) (y : Y) (n : Names → Names → Named Y) (F : Y → Z) (z : Z) → z ≡ F y → Does p s r y n → Does p s r z (λ b t. let a = n b t in (a.0, F a.1))
+pub does_wrapped : {off : List ℕ → Bool} {Y Z : Type 0} (p : List ℕ) (s r : GivenNames) (y : Y) (n : Names → Names → Named Y) (F : Y → Z) (z : Z) → z ≡ F y → DoesWithin off p s r y n → DoesWithin off p s r z (λ b t. let a = n b t in (a.0, F a.1))
 does_wrapped p s r y n F z e d = record { step = λ b t st. let a = d.step b t st in (e ∙ ap F a.0, a.1) }
 
 pub does_both : {X Y Z : Type 0} (p : List ℕ) (s m r : GivenNames) (x : X) (y : Y) (f : Names → Names → Named X) (g : Names → Names → Named Y) (F : X → Y → Z) (z : Z)
@@ -55,32 +55,33 @@ module _ {X Y : Type 0} (p : List ℕ) (f : X → Names → Names → Named Y) w
         (ez ∙ (λ i. a.0 i ++ c.0 i ∷ []) ∙ sym (ap (λ z. z.1) l), subst (λ (z : Names). Stands r p z b) (sym (ap (λ z. z.0) l)) c.1);
   }
 
+module _ {X Y : Type 0} (off : List ℕ → Bool) (p : List ℕ) (f : X → Names → Names → Named Y) where
   -- what was named so far, and what is left
   pub record Gives (first now : GivenNames) (ys : List Y) (rest all : List X) : Type 0 where
-    pub step : (b t : Names) → Stands first p t b → (u : Names) × Stands now p u b × (ys ++ (all_of rest b u).1 ≡ (all_of all b t).1) × ((all_of rest b u).0 ≡ (all_of all b t).0)
+    pub step : (b t : Names) → StandsWithin off first p t b → (u : Names) × StandsWithin off now p u b × (ys ++ (all_of p f rest b u).1 ≡ (all_of p f all b t).1) × ((all_of p f rest b u).0 ≡ (all_of p f all b t).0)
 
   pub gives_none : (s : GivenNames) (ys : List Y) (rest all : List X) → ys ≡ [] → rest ≡ all → Gives s s ys rest all
-  gives_none s ys rest all e h = record { step = λ b t st. (t, st, (λ i. e i ++ (all_of (h i) b t).1), (λ i. (all_of (h i) b t).0)) }
+  gives_none s ys rest all e h = record { step = λ b t st. (t, st, (λ i. e i ++ (all_of p f (h i) b t).1), (λ i. (all_of p f (h i) b t).0)) }
 
   pub gives_more : (s m r : GivenNames) (ys zs : List Y) (rest left all : List X) (x : X) (y : Y) → zs ≡ ys ++ y ∷ [] → rest ≡ x ∷ left
-      → Gives s m ys rest all → Does p m r y (f x) → Gives s r zs left all
+      → Gives s m ys rest all → DoesWithin off p m r y (f x) → Gives s r zs left all
   gives_more s m r ys zs rest left all x y ez er g d = record {
     step = λ b t st.
         let a = g.step b t st in
         let c = d.step b a.0 a.1 in (
           (f x b a.0).0,
           c.1,
-          (λ i. (ez ∙ (λ j. ys ++ c.0 j ∷ [])) i ++ (all_of left b (f x b a.0).0).1) ∙ append_assoc ys ((f x b a.0).1 ∷ []) (all_of left b (f x b a.0).0).1 ∙ (λ i. ys ++ (all_of (sym er i) b a.0).1) ∙ a.2,
-          (λ i. (all_of (sym er i) b a.0).0) ∙ a.3,
+          (λ i. (ez ∙ (λ j. ys ++ c.0 j ∷ [])) i ++ (all_of p f left b (f x b a.0).0).1) ∙ append_assoc ys ((f x b a.0).1 ∷ []) (all_of p f left b (f x b a.0).0).1 ∙ (λ i. ys ++ (all_of p f (sym er i) b a.0).1) ∙ a.2,
+          (λ i. (all_of p f (sym er i) b a.0).0) ∙ a.3,
         );
   }
 
-  pub gives_all : (s r : GivenNames) (ys : List Y) (rest all : List X) → rest ≡ [] → Gives s r ys rest all → Does p s r ys (all_of all)
+  pub gives_all : (s r : GivenNames) (ys : List Y) (rest all : List X) → rest ≡ [] → Gives s r ys rest all → DoesWithin off p s r ys (all_of p f all)
   gives_all s r ys rest all er g = record {
     step = λ b t st.
         let a = g.step b t st in (
-          sym (append-nil ys) ∙ (λ i. ys ++ (all_of (sym er i) b a.0).1) ∙ a.2,
-          subst (λ (z : Names). Stands r p z b) ((λ i. (all_of (sym er i) b a.0).0) ∙ a.3) a.1,
+          sym (append-nil ys) ∙ (λ i. ys ++ (all_of p f (sym er i) b a.0).1) ∙ a.2,
+          subst (λ (z : Names). StandsWithin off r p z b) ((λ i. (all_of p f (sym er i) b a.0).0) ∙ a.3) a.1,
         );
   }
 
@@ -104,15 +105,16 @@ module _ {A B X Y : Type 0} (p : List ℕ) (f : X → Names → Names → Named 
   pub end : (s r : GivenNames) (done : List B) (items all : List A) (i : ℕ) → length items ≤ i → items ≡ all → Does p s r (map w done) (all_of p f (map v (take i items))) → Does p s r (map w done) (all_of p f (map v all))
   end s r done items all i h e d = subst (λ (z : List A). Does p s r (map w done) (all_of p f (map v z))) (take_all i items h ∙ e) d
 
+module _ {A B X Y : Type 0} (off : List ℕ → Bool) (p : List ℕ) (f : X → Names → Names → Named Y) (v : A → X) (w : B → Y) where
   pub owned_turn : (s m r : GivenNames) (done new : List B) (b : B) (rest left all : List A) (a : A) → rest ≡ a ∷ left → new ≡ done ++ b ∷ []
-      → Gives p f s m (map w done) (map v rest) (map v all) → Does p m r (w b) (f (v a)) → Gives p f s r (map w new) (map v left) (map v all)
-  owned_turn s m r done new b rest left all a e n g d = gives_more p f s m r (map w done) (map w new) (map v rest) (map v left) (map v all) (v a) (w b) (mapped_push w new done b n) (ap (map v) e) g d
+      → Gives off p f s m (map w done) (map v rest) (map v all) → DoesWithin off p m r (w b) (f (v a)) → Gives off p f s r (map w new) (map v left) (map v all)
+  owned_turn s m r done new b rest left all a e n g d = gives_more off p f s m r (map w done) (map w new) (map v rest) (map v left) (map v all) (v a) (w b) (mapped_push w new done b n) (ap (map v) e) g d
 
-  pub owned_begin : (s : GivenNames) (done : List B) (rest all : List A) → done ≡ [] → rest ≡ all → Gives p f s s (map w done) (map v rest) (map v all)
-  owned_begin s done rest all e h = gives_none p f s (map w done) (map v rest) (map v all) (ap (map w) e) (ap (map v) h)
+  pub owned_begin : (s : GivenNames) (done : List B) (rest all : List A) → done ≡ [] → rest ≡ all → Gives off p f s s (map w done) (map v rest) (map v all)
+  owned_begin s done rest all e h = gives_none off p f s (map w done) (map v rest) (map v all) (ap (map w) e) (ap (map v) h)
 
-  pub owned_end : (s r : GivenNames) (done : List B) (rest all : List A) → rest ≡ [] → Gives p f s r (map w done) (map v rest) (map v all) → Does p s r (map w done) (all_of p f (map v all))
-  owned_end s r done rest all e g = gives_all p f s r (map w done) (map v rest) (map v all) (ap (map v) e) g
+  pub owned_end : (s r : GivenNames) (done : List B) (rest all : List A) → rest ≡ [] → Gives off p f s r (map w done) (map v rest) (map v all) → DoesWithin off p s r (map w done) (all_of p f (map v all))
+  owned_end s r done rest all e g = gives_all off p f s r (map w done) (map v rest) (map v all) (ap (map v) e) g
 
 -- names that are wanted, one after another
 module _ {A X : Type 0} (v : X → List ℕ) (w : A → X) where

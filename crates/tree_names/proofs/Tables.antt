@@ -4,7 +4,7 @@ use Rattle.std.proofs.lemmas.List.{length-map}
 use Rattle.entry_defs.specs.Entry as defs
 use Rattle.entry_defs.specs.Entry.{the_root, definition, Entry, item, Shape}
 use Rattle.entry_defs.specs.Table.{TargetEntry, Table}
-use Rattle.naming_defs.specs.Names.{Names, item_name, named, named_shape, after_targets, named_targets, named_trees, keys, named_table}
+use Rattle.naming_defs.specs.Names.{Names, is_value, taking, item_name, named, named_shape, after_targets, named_targets, named_trees, keys, named_table}
 use Rattle.naming_defs.specs.Good.{is_good_name}
 use Rattle.good_names.specs.Given.{Stands, Does}
 use Rattle.tree_types.specs.View.{label_view, target_view, tree_view, item_in, target_entry}
@@ -34,11 +34,11 @@ key_more (y ∷ xs) x = by y.target (key_more xs x)
 
 given_after : (b : Names) (xs : List TargetEntry) (u : Names) → (targets_given xs b u).0 ≡ after_targets is_good_name b u xs
 given_after b [] u = refl
-given_after b (x ∷ xs) u = given_after b xs (item_name is_good_name b u x.led_to.name ∷ u)
+given_after b (x ∷ xs) u = given_after b xs (taking (is_value x.led_to.shape) (item_name is_good_name b u x.led_to.name) u)
 
 given_many : (b : Names) (xs : List TargetEntry) (u : Names) → length (targets_given xs b u).1 ≡ length xs
 given_many b [] u = refl
-given_many b (x ∷ xs) u = let h = given_many b xs (item_name is_good_name b u x.led_to.name ∷ u) in omega (arith, h)
+given_many b (x ∷ xs) u = let h = given_many b xs (taking (is_value x.led_to.shape) (item_name is_good_name b u x.led_to.name) u) in omega (arith, h)
 
 -- each has a name
 pub as_many : (s r : GivenNames) (xs : List (Target × Tree)) (ls : List Label) → ((p : List ℕ) → Stands s p [] (keys is_good_name (map target_entry xs)))
@@ -57,7 +57,7 @@ targets_are b [] u t = refl
 targets_are b (x ∷ xs) u t =
     let n = item_name is_good_name b u x.led_to.name in
     let a = named_shape is_good_name b x.led_to.shape t in
-    ap (λ z. (z.0, record { target = x.target; led_to = record { name = n; shape = a.1 } } ∷ z.1)) (targets_are b xs (n ∷ u) a.0)
+    ap (λ z. (z.0, record { target = x.target; led_to = record { name = n; shape = a.1 } } ∷ z.1)) (targets_are b xs (taking (is_value x.led_to.shape) n u) a.0)
 
 trees_are : (b : Names) (es : List Entry) (t : Names) → trees_named es b t ≡ named_trees is_good_name b es t
 trees_are b [] t = refl

@@ -1,13 +1,13 @@
 -- Turns of the loops, and where they end.
 use Rattle.std.proofs.Common.{◌≡◌, ◌<◌, ◌≤◌, ◌+◌, ◌++◌, ℕ, suc, List, [], ◌∷◌, map, length, take, get_or, Option, Vec, Global, codes, refl, sym, ap, ◌∙◌, subst, arith}
-use Rattle.std.proofs.lemmas.List.{take_all, length-map, get_or-map}
+use Rattle.std.proofs.lemmas.List.{take_all, length-map, get_or-map, map-append}
 use Rattle.model_defs.specs.Model.{TagModel}
 use Rattle.entry_defs.specs.Table.{TargetEntry}
-use Rattle.naming_defs.specs.Names.{Names, name_by, keys}
+use Rattle.naming_defs.specs.Names.{Names, name_by, keys, bound}
 use Rattle.naming_defs.specs.Good.{is_good_name}
-use Rattle.good_names.specs.Given.{Stands, Does, name_given}
+use Rattle.good_names.specs.Given.{nothing_off, has_value, Stands, DoesWithin, Does}
 use Rattle.tree_types.specs.View.{label_view, tree_view, target_entry}
-use Rattle.tree_names.specs.Seen.{PartD, part_view, names_of, part_named, parts_named, part_identified, parts_identified, variant_view, name_in, variant_named, variants_named, variant_identified, variants_identified, entry_named, trees_named, target_named, targets_named, targets_given, with_names}
+use Rattle.tree_names.specs.Seen.{PartD, part_view, names_of, part_named, parts_named, part_identified, parts_identified, part_bound, parts_bound, identifiers_of, variant_view, name_in, variant_named, variants_named, variant_identified, variants_identified, entry_named, trees_named, target_named, targets_named, targets_given, item_given_to, with_names}
 use Rattle.good_names.specs.declared.given.GivenNames.{GivenNames}
 use Rattle.tree_types.specs.declared.tree.Label.{Label}
 use Rattle.tree_types.specs.declared.tree.Target.{Target}
@@ -65,27 +65,60 @@ keys_wanted_end s items all i d h e p = subst (λ (z : List (Target × Tree)). S
 
 -- ---- identifiers
 
-pub fields_identified_begin : (s : GivenNames) (done rest all : List Part) → done ≡ [] → rest ≡ all → Gives F part_identified s s (map part_view done) (map part_view rest) (map part_view all)
-fields_identified_begin s done rest all = owned_begin F part_identified part_view part_view s done rest all
+pub fields_identified_begin : (s : GivenNames) (done rest all : List Part) → done ≡ [] → rest ≡ all → Gives nothing_off F part_identified s s (map part_view done) (map part_view rest) (map part_view all)
+fields_identified_begin s done rest all = owned_begin nothing_off F part_identified part_view part_view s done rest all
 
-pub fields_identified_turn : (s m r : GivenNames) (done new rest left all : List Part) (a b : Part) → Gives F part_identified s m (map part_view done) (map part_view rest) (map part_view all) → rest ≡ a ∷ left → new ≡ done ++ b ∷ []
-    → Does F m r (part_view b) (part_identified (part_view a)) → Gives F part_identified s r (map part_view new) (map part_view left) (map part_view all)
-fields_identified_turn s m r done new rest left all a b g e n d = owned_turn F part_identified part_view part_view s m r done new b rest left all a e n g d
+pub fields_identified_turn : (s m r : GivenNames) (done new rest left all : List Part) (a b : Part) → Gives nothing_off F part_identified s m (map part_view done) (map part_view rest) (map part_view all) → rest ≡ a ∷ left → new ≡ done ++ b ∷ []
+    → Does F m r (part_view b) (part_identified (part_view a)) → Gives nothing_off F part_identified s r (map part_view new) (map part_view left) (map part_view all)
+fields_identified_turn s m r done new rest left all a b g e n d = owned_turn nothing_off F part_identified part_view part_view s m r done new b rest left all a e n g d
 
-pub fields_identified_end : (s r : GivenNames) (done rest all : List Part) → Gives F part_identified s r (map part_view done) (map part_view rest) (map part_view all) → rest ≡ []
+pub fields_identified_end : (s r : GivenNames) (done rest all : List Part) → Gives nothing_off F part_identified s r (map part_view done) (map part_view rest) (map part_view all) → rest ≡ []
     → Does F s r (map part_view done) (parts_identified (map part_view all))
-fields_identified_end s r done rest all g e = owned_end F part_identified part_view part_view s r done rest all e g
+fields_identified_end s r done rest all g e = owned_end nothing_off F part_identified part_view part_view s r done rest all e g
 
-pub variants_identified_begin : (tag : TagModel) (s : GivenNames) (done rest all : List Case) → done ≡ [] → rest ≡ all → Gives V (variant_identified tag) s s (map variant_view done) (map variant_view rest) (map variant_view all)
-variants_identified_begin tag s done rest all = owned_begin V (variant_identified tag) variant_view variant_view s done rest all
+-- where patterns bind them
+module _ (items : GivenNames) where
+  pub fields_bound_begin : (s : GivenNames) (done rest all : List Part) → done ≡ [] → rest ≡ all → Gives (has_value items) F part_bound s s (map part_view done) (map part_view rest) (map part_view all)
+  fields_bound_begin s done rest all = owned_begin (has_value items) F part_bound part_view part_view s done rest all
 
-pub variants_identified_turn : (tag : TagModel) (s m r : GivenNames) (done new rest left all : List Case) (a b : Case) → Gives V (variant_identified tag) s m (map variant_view done) (map variant_view rest) (map variant_view all)
-    → rest ≡ a ∷ left → new ≡ done ++ b ∷ [] → Does V m r (variant_view b) (variant_identified tag (variant_view a)) → Gives V (variant_identified tag) s r (map variant_view new) (map variant_view left) (map variant_view all)
-variants_identified_turn tag s m r done new rest left all a b g e n d = owned_turn V (variant_identified tag) variant_view variant_view s m r done new b rest left all a e n g d
+  pub fields_bound_turn : (s m r : GivenNames) (done new rest left all : List Part) (a b : Part) → Gives (has_value items) F part_bound s m (map part_view done) (map part_view rest) (map part_view all) → rest ≡ a ∷ left → new ≡ done ++ b ∷ []
+      → DoesWithin (has_value items) F m r (part_view b) (part_bound (part_view a)) → Gives (has_value items) F part_bound s r (map part_view new) (map part_view left) (map part_view all)
+  fields_bound_turn s m r done new rest left all a b g e n d = owned_turn (has_value items) F part_bound part_view part_view s m r done new b rest left all a e n g d
 
-pub variants_identified_end : (tag : TagModel) (s r : GivenNames) (done rest all : List Case) → Gives V (variant_identified tag) s r (map variant_view done) (map variant_view rest) (map variant_view all) → rest ≡ []
+  pub fields_bound_end : (s r : GivenNames) (done rest all : List Part) → Gives (has_value items) F part_bound s r (map part_view done) (map part_view rest) (map part_view all) → rest ≡ []
+      → DoesWithin (has_value items) F s r (map part_view done) (parts_bound (map part_view all))
+  fields_bound_end s r done rest all g e = owned_end (has_value items) F part_bound part_view part_view s r done rest all e g
+
+-- and then taken
+abbrev pub Takes : GivenNames → GivenNames → Names → Type 0
+Takes s r ns = (p : List ℕ) (t b : Names) → Stands s p t b → Stands r p (bound ns t) b
+
+bound_last : (ns : Names) (n : List ℕ) (t : Names) → bound (ns ++ n ∷ []) t ≡ n ∷ bound ns t
+bound_last [] n t = refl
+bound_last (m ∷ ns) n t = bound_last ns n (m ∷ t)
+
+identifiers_more : (items : List Part) (i : ℕ) (a : Part) → i < length items → a ≡ get_or items i a → identifiers_of (map part_view (take (i + 1) items)) ≡ identifiers_of (map part_view (take i items)) ++ label_view a.0.label ∷ []
+identifiers_more items i a h e = ap identifiers_of (mapped_step part_view items i a h e) ∙ map-append (λ (q : PartD). q.identifier) (map part_view (take i items)) (part_view a ∷ [])
+
+pub takes_turn : (s m r : GivenNames) (items : List Part) (i : ℕ) (a : Part) → Takes s m (identifiers_of (map part_view (take i items))) → i < length items → a ≡ get_or items i a
+    → ((p : List ℕ) (t b : Names) → Stands m p t b → Stands r p (label_view a.0.label ∷ t) b) → Takes s r (identifiers_of (map part_view (take (i + 1) items)))
+takes_turn s m r items i a d h e k p t b st =
+    subst (λ (z : Names). Stands r p z b) (sym (ap (λ z. bound z t) (identifiers_more items i a h e) ∙ bound_last (identifiers_of (map part_view (take i items))) (label_view a.0.label) t))
+    (k p (bound (identifiers_of (map part_view (take i items))) t) b (d p t b st))
+
+pub takes_end : (s r : GivenNames) (items all : List Part) (i : ℕ) → Takes s r (identifiers_of (map part_view (take i items))) → length items ≤ i → items ≡ all → Takes s r (identifiers_of (map part_view all))
+takes_end s r items all i d h e = subst (λ (z : List Part). Takes s r (identifiers_of (map part_view z))) (take_all i items h ∙ e) d
+
+pub variants_identified_begin : (tag : TagModel) (s : GivenNames) (done rest all : List Case) → done ≡ [] → rest ≡ all → Gives nothing_off V (variant_identified tag) s s (map variant_view done) (map variant_view rest) (map variant_view all)
+variants_identified_begin tag s done rest all = owned_begin nothing_off V (variant_identified tag) variant_view variant_view s done rest all
+
+pub variants_identified_turn : (tag : TagModel) (s m r : GivenNames) (done new rest left all : List Case) (a b : Case) → Gives nothing_off V (variant_identified tag) s m (map variant_view done) (map variant_view rest) (map variant_view all)
+    → rest ≡ a ∷ left → new ≡ done ++ b ∷ [] → Does V m r (variant_view b) (variant_identified tag (variant_view a)) → Gives nothing_off V (variant_identified tag) s r (map variant_view new) (map variant_view left) (map variant_view all)
+variants_identified_turn tag s m r done new rest left all a b g e n d = owned_turn nothing_off V (variant_identified tag) variant_view variant_view s m r done new b rest left all a e n g d
+
+pub variants_identified_end : (tag : TagModel) (s r : GivenNames) (done rest all : List Case) → Gives nothing_off V (variant_identified tag) s r (map variant_view done) (map variant_view rest) (map variant_view all) → rest ≡ []
     → Does V s r (map variant_view done) (variants_identified tag (map variant_view all))
-variants_identified_end tag s r done rest all g e = owned_end V (variant_identified tag) variant_view variant_view s r done rest all e g
+variants_identified_end tag s r done rest all g e = owned_end nothing_off V (variant_identified tag) variant_view variant_view s r done rest all e g
 
 -- ---- the walk
 
@@ -112,13 +145,13 @@ variants_end s r done items all i d h e = end T variant_named variant_view varia
 -- ---- tables
 
 abbrev given_for : TargetEntry → Names → Names → Names × List ℕ
-given_for x = name_given T x.led_to.name
+given_for x = item_given_to x.led_to
 
 pub labels_begin : (s : GivenNames) (done : List Label) (items : List (Target × Tree)) → done ≡ [] → Does T s s (map label_view done) (targets_given (map target_entry (take 0 items)))
 labels_begin s done items = begin T given_for target_entry label_view s done items
 
 pub labels_turn : (s m r : GivenNames) (done new : List Label) (items : List (Target × Tree)) (i : ℕ) (a : Target × Tree) (b : Label) → Does T s m (map label_view done) (targets_given (map target_entry (take i items))) → i < length items → a ≡ get_or items i a
-    → new ≡ done ++ b ∷ [] → Does T m r (label_view b) (name_given T (target_entry a).led_to.name) → Does T s r (map label_view new) (targets_given (map target_entry (take (i + 1) items)))
+    → new ≡ done ++ b ∷ [] → Does T m r (label_view b) (item_given_to (target_entry a).led_to) → Does T s r (map label_view new) (targets_given (map target_entry (take (i + 1) items)))
 labels_turn s m r done new items i a b d h e n k = turn T given_for target_entry label_view s m r done new b items i a h e n d k
 
 pub labels_end : (s r : GivenNames) (done : List Label) (items all : List (Target × Tree)) (i : ℕ) → Does T s r (map label_view done) (targets_given (map target_entry (take i items))) → length items ≤ i → items ≡ all → Does T s r (map label_view done) (targets_given (map target_entry all))

@@ -1,14 +1,15 @@
 -- What each step of the walk gives.
-use Rattle.std.proofs.Common.{◌≡◌, ◌<◌, ◌+◌, ◌++◌, length, take, get_or, slice_get, ℕ, List, [], ◌∷◌, map, Bool, Option, Some, None, option_map, Box, Vec, Global, codes, refl, sym, ap, ◌∙◌, subst}
+use Rattle.std.proofs.Common.{◌≡◌, ◌<◌, ◌+◌, ◌++◌, length, take, get_or, slice_get, ℕ, List, [], ◌∷◌, map, Bool, true, false, Option, Some, None, option_map, Box, Vec, Global, codes, refl, sym, ap, ◌∙◌, subst}
 use Rattle.std.proofs.lemmas.List.{take_more, map-append}
 use Rattle.model_defs.specs.Model.{TagModel, external_tag, internal_tag, adjacent_tag, untagged}
 use Rattle.entry_defs.specs.Entry.{Entry, option_entry, vec_entry, set_entry, array_entry, map_entry, tuple_entry, item, Shape, struct_shape, enum_shape, newtype_shape, Fields, no_fields, rest_field}
-use Rattle.naming_defs.specs.Names.{Names, identified_fields, given_name, variant_name, name_by}
+use Rattle.naming_defs.specs.Names.{Names, is_value, taking, values, bound, identified_fields, item_name, variant_name, name_by}
 use Rattle.naming_defs.specs.Good.{is_good_name}
-use Rattle.good_names.specs.Given.{Stands, Does, name_given}
+use Rattle.good_names.specs.Given.{has_value, Stands, DoesWithin, Does, name_given, item_given, bound_given}
+use Rattle.good_names.proofs.First.{begins_within}
 use Rattle.row_findings.specs.View.{tag_view, state_view}
 use Rattle.tree_types.specs.View.{label_view, rule_view, atom_view, wrapped, tree_view, rest_fields}
-use Rattle.tree_names.specs.Seen.{PartD, VariantD, part_view, places_of, fields_of, part_named, parts_named, part_identified, parts_identified, contents_named, names_of, variant_view, variants_of, variant_named, variants_named, variant_given, variant_identified, variants_identified, name_in, entry_named, rest_named, item_named}
+use Rattle.tree_names.specs.Seen.{PartD, VariantD, part_view, places_of, fields_of, part_named, parts_named, part_identified, parts_identified, part_bound, parts_bound, contents_named, names_of, identifiers_of, variant_view, variants_of, variant_named, variants_named, variant_given, variant_identified, variants_identified, name_in, entry_named, rest_named, item_named}
 use Rattle.good_names.specs.declared.given.GivenNames.{GivenNames}
 use Rattle.tree_types.specs.declared.tree.Label.{Label}
 use Rattle.tree_types.specs.declared.tree.Atom.{Atom}
@@ -88,11 +89,11 @@ tuple_does s r ps qs d =
 -- ---- items
 
 -- an item's name is given before what it holds is named
-pub item_does : (s m r : GivenNames) (n w : List ℕ) (h : Shape) (y : Entry) → Does T s m n (name_given T w) → Does T m r y (item_named n h) → Does T s r y (entry_named (item w h))
+pub item_does : (s m r : GivenNames) (n w : List ℕ) (h : Shape) (y : Entry) → Does T s m n (item_given (is_value h) w) → Does T m r y (item_named n h) → Does T s r y (entry_named (item w h))
 item_does s m r n w h y d k = record {
   step = λ b t st.
       let a = d.step b t st in
-      let u = given_name is_good_name T t b w ∷ t in
+      let u = taking (is_value h) (item_name is_good_name b t w) t in
       let c = k.step b u a.1 in
       (c.0 ∙ ap (λ z. (item_named z h b u).1) a.0, c.1);
 }
@@ -121,33 +122,38 @@ enum_does s r l closed tag ws vs us d e =
     (λ b t. sym (ap (λ z. (z.0, item (label_view l) z.1)) (enum_named b closed g cases t)))
     (does_wrapped T s r (map variant_view vs.items) (variants_named cases) F _ (enum_in_parts l closed tag us ∙ ap (λ z. item (label_view l) (enum_shape closed g (variants_of g z))) e) d)
 
+-- a struct's name, where it is said whether the struct has fields
+bare_given : (s n : GivenNames) (k w : List ℕ) (bare : Bool) (h : Shape) → bare ≡ is_value h → Does T s n k (item_given bare w) → Does T s n k (item_given (is_value h) w)
+bare_given s n k w bare h e d = subst (λ (x : Bool). Does T s n k (item_given x w)) e d
+
 -- items, with their names
 
 pub one_whole : (s r : GivenNames) (w : Wrap) (b : Box Tree Global) (x : Tree) → Does T s r (tree_view x) (entry_named (wrapped w (tree_view b.value))) → Does T s r (tree_view x) (entry_named (tree_view (trees.One w b)))
 one_whole s r w b x d = does_seen s r (tree_view x) (tree_view x) (wrapped w (tree_view b.value)) (tree_view (trees.One w b)) refl (one_seen w b) d
 
-pub newtype_whole : (s m r : GivenNames) (l k : Label) (rule : Option TreeRule) (x : Box Tree Global) (e : Entry) → Does T s m (label_view k) (name_given T (label_view l)) → Does T m r (tree_view x.value) (entry_named e)
+pub newtype_whole : (s m r : GivenNames) (l k : Label) (rule : Option TreeRule) (x : Box Tree Global) (e : Entry) → Does T s m (label_view k) (item_given true (label_view l)) → Does T m r (tree_view x.value) (entry_named e)
     → Does T s r (tree_view (trees.One (wraps.Newtype k rule) x)) (entry_named (wrapped (wraps.Newtype l rule) e))
 newtype_whole s m r l k rule x e d f = item_does s m r (label_view k) (label_view l) (newtype_shape e (option_map rule_view rule)) (tree_view (trees.One (wraps.Newtype k rule) x)) d (newtype_does m r x e f k rule)
 
-pub struct_whole : (s n m r : GivenNames) (l k : Label) (closed : Bool) (ps fs qs : Vec (FieldHead × Option Tree) Global) (rest o p : Option (Label × Box Tree Global)) → Does T s n (label_view k) (name_given T (label_view l))
+pub struct_whole : (s n m r : GivenNames) (l k : Label) (closed bare : Bool) (ps fs qs : Vec (FieldHead × Option Tree) Global) (rest o p : Option (Label × Box Tree Global))
+    → ((closed : Bool) → bare ≡ is_value (struct_shape closed (fields_of (map part_view ps.items) (rest_fields rest)))) → Does T s n (label_view k) (item_given bare (label_view l))
     → Does T n m (map part_view fs.items) (parts_named (map part_view ps.items)) → Does T m r (rest_fields o) (rest_named (rest_fields rest))
     → fields_of (map part_view qs.items) (rest_fields p) ≡ identified_fields is_good_name (fields_of (map part_view fs.items) (rest_fields o))
     → Does T s r (tree_view (trees.Struct k closed qs p)) (entry_named (tree_view (trees.Struct l closed ps rest)))
-struct_whole s n m r l k closed ps fs qs rest o p d f g e =
+struct_whole s n m r l k closed bare ps fs qs rest o p is d f g e =
     let x = tree_view (trees.Struct k closed qs p) in
     let h = struct_shape closed (fields_of (map part_view ps.items) (rest_fields rest)) in
     does_seen s r x x (item (label_view l) h) (tree_view (trees.Struct l closed ps rest)) refl (struct_in_parts l closed ps rest)
-    (item_does s n r (label_view k) (label_view l) h x d (struct_does n m r k closed ps.items (rest_fields rest) fs qs o p f g e))
+    (item_does s n r (label_view k) (label_view l) h x (bare_given s n (label_view k) (label_view l) bare h (is closed) d) (struct_does n m r k closed ps.items (rest_fields rest) fs qs o p f g e))
 
-pub struct_walked : (s n m r : GivenNames) (x : Tree) (l k : Label) (closed : Bool) (ps fs qs : Vec (FieldHead × Option Tree) Global) (rest o p : Option (Label × Box Tree Global)) → x ≡ trees.Struct l closed ps rest
-    → Does T s n (label_view k) (name_given T (label_view l)) → Does T n m (map part_view fs.items) (parts_named (map part_view ps.items)) → Does T m r (rest_fields o) (rest_named (rest_fields rest))
+pub struct_walked : (s n m r : GivenNames) (x : Tree) (l k : Label) (closed bare : Bool) (ps fs qs : Vec (FieldHead × Option Tree) Global) (rest o p : Option (Label × Box Tree Global)) → x ≡ trees.Struct l closed ps rest
+    → ((closed : Bool) → bare ≡ is_value (struct_shape closed (fields_of (map part_view ps.items) (rest_fields rest)))) → Does T s n (label_view k) (item_given bare (label_view l)) → Does T n m (map part_view fs.items) (parts_named (map part_view ps.items)) → Does T m r (rest_fields o) (rest_named (rest_fields rest))
     → fields_of (map part_view qs.items) (rest_fields p) ≡ identified_fields is_good_name (fields_of (map part_view fs.items) (rest_fields o))
     → Does T s r (tree_view (trees.Struct k closed qs p)) (entry_named (tree_view x))
-struct_walked s n m r x l k closed ps fs qs rest o p is d f g e =
-    subst (λ (z : Tree). Does T s r (tree_view (trees.Struct k closed qs p)) (entry_named (tree_view z))) (sym is) (struct_whole s n m r l k closed ps fs qs rest o p d f g e)
+struct_walked s n m r x l k closed bare ps fs qs rest o p is none d f g e =
+    subst (λ (z : Tree). Does T s r (tree_view (trees.Struct k closed qs p)) (entry_named (tree_view z))) (sym is) (struct_whole s n m r l k closed bare ps fs qs rest o p none d f g e)
 
-pub enum_whole : (s n r : GivenNames) (l k : Label) (closed : Bool) (tag : TagRow) (ws vs us : Vec (VariantHead × Vec (FieldHead × Option Tree) Global) Global) → Does T s n (label_view k) (name_given T (label_view l))
+pub enum_whole : (s n r : GivenNames) (l k : Label) (closed : Bool) (tag : TagRow) (ws vs us : Vec (VariantHead × Vec (FieldHead × Option Tree) Global) Global) → Does T s n (label_view k) (item_given false (label_view l))
     → Does T n r (map variant_view vs.items) (variants_named (map variant_view ws.items))
     → map variant_view us.items ≡ (variants_identified (tag_view tag) (map variant_view vs.items) (map (name_in (tag_view tag)) (map variant_view vs.items)) []).1
     → Does T s r (tree_view (trees.Enum k closed tag us)) (entry_named (tree_view (trees.Enum l closed tag ws)))
@@ -198,9 +204,16 @@ pub front_told : (s r : GivenNames) (p q : FieldHead × Option Tree) (ps all old
 front_told s r p q ps all old qs same e none h d =
     subst (λ (z : Parts). Does T s r (map part_view qs) (contents_named kinds.Newtype (map part_view z))) same (front_does s r p q ps qs e (h ∙ ap (λ z. z ++ q ∷ []) none) d)
 
-pub fields_do : (s r : GivenNames) (ps qs fs : Parts) → Does T s r (map part_view fs) (parts_named (map part_view ps))
-    → map part_view qs ≡ (parts_identified (map part_view fs) (names_of (map part_view fs)) []).1 → Does T s r (map part_view qs) (contents_named kinds.Struct (map part_view ps))
-fields_do s r ps qs fs d e = does_wrapped T s r (map part_view fs) (parts_named (map part_view ps)) (λ z. (parts_identified z (names_of z) []).1) (map part_view qs) e d
+pub fields_do : (s m r : GivenNames) (ps qs fs : Parts) → Does T s m (map part_view fs) (parts_named (map part_view ps))
+    → ((b t : Names) → Stands m T t b → map part_view qs ≡ (parts_bound (map part_view fs) (names_of (map part_view fs)) (values t)).1)
+    → ((p : List ℕ) (t b : Names) → Stands m p t b → Stands r p (bound (identifiers_of (map part_view qs)) t) b) → Does T s r (map part_view qs) (contents_named kinds.Struct (map part_view ps))
+fields_do s m r ps qs fs d e k = record {
+  step = λ b t st.
+      let a = d.step b t st in
+      let u = (parts_named (map part_view ps) b t).0 in
+      let same : map part_view qs ≡ (contents_named kinds.Struct (map part_view ps) b t).1 = e b u a.1 ∙ ap (λ z. (parts_bound z (names_of z) (values u)).1) a.0 in
+      (same, subst (λ (z : List PartD). Stands r T (bound (identifiers_of z) u) b) same (k T u b a.1));
+}
 
 pub variant_does : (s r : GivenNames) (h k : VariantHead) (ps qs : Vec (FieldHead × Option Tree) Global) → label_view k.label ≡ label_view h.label → k.label.wanted.now ≡ h.label.wanted.now → k.kind ≡ h.kind
     → Does T s r (map part_view qs.items) (contents_named h.kind (map part_view ps.items)) → Does T s r (variant_view (k, qs)) (variant_named (variant_view (h, ps)))
@@ -228,15 +241,23 @@ rest_identified s m r ps qs l k x st d e =
     let c = e.step (names_of xs) (parts_identified xs (names_of xs) []).0 a.1 in
     (λ i. fields_of (a.0 i) (rest_field (c.0 i) (tree_view x.value))) ∙ sym (all_identified xs (rest_fields (Some (l, x))) refl)
 
-pub contents_identified : (s r : GivenNames) (ps qs : Parts) → ((p : List ℕ) → Stands s p [] (names_of (map part_view ps))) → Does F s r (map part_view qs) (parts_identified (map part_view ps))
-    → map part_view qs ≡ (parts_identified (map part_view ps) (names_of (map part_view ps)) []).1
-contents_identified s r ps qs st d = (d.step (names_of (map part_view ps)) [] (st F)).0
+pub contents_bound : (s r items : GivenNames) (ps qs : Parts) → ((p : List ℕ) → Stands s p [] (names_of (map part_view ps))) → DoesWithin (has_value items) F s r (map part_view qs) (parts_bound (map part_view ps))
+    → (b t : Names) → Stands items T t b → map part_view qs ≡ (parts_bound (map part_view ps) (names_of (map part_view ps)) (values t)).1
+contents_bound s r items ps qs st d b t of =
+    let wanted = names_of (map part_view ps) in
+    (d.step wanted (values t) (begins_within s items F T t wanted b (st F) of)).0
 
 -- a field has its identifier
 pub part_identified_does : (s r : GivenNames) (h k : FieldHead) (o : Option Tree) (n : List ℕ) → label_view k.label ≡ n → k.label.wanted.now ≡ h.label.wanted.now → k.state ≡ h.state
     → Does F s r n (name_given F h.label.wanted.now) → Does F s r (part_view (k, o)) (part_identified (part_view (h, o)))
 part_identified_does s r h k o n i w e d =
     does_wrapped F s r n (name_given F h.label.wanted.now) (λ z. record { identifier = z; name = h.label.wanted.now; state = state_view h.state; entry = option_map tree_view o }) (part_view (k, o))
+    (λ j. record { identifier = i j; name = w j; state = state_view (e j); entry = option_map tree_view o }) d
+
+pub part_bound_does : (items s r : GivenNames) (h k : FieldHead) (o : Option Tree) (n : List ℕ) → label_view k.label ≡ n → k.label.wanted.now ≡ h.label.wanted.now → k.state ≡ h.state
+    → DoesWithin (has_value items) F s r n (bound_given h.label.wanted.now) → DoesWithin (has_value items) F s r (part_view (k, o)) (part_bound (part_view (h, o)))
+part_bound_does items s r h k o n i w e d =
+    does_wrapped F s r n (bound_given h.label.wanted.now) (λ z. record { identifier = z; name = h.label.wanted.now; state = state_view h.state; entry = option_map tree_view o }) (part_view (k, o))
     (λ j. record { identifier = i j; name = w j; state = state_view (e j); entry = option_map tree_view o }) d
 
 abbrev V : List ℕ

@@ -1,11 +1,11 @@
 -- Naming part by part: what each step gives, and the names that are taken after it.
-use Rattle.std.specs.Prelude.{ℕ, List, [], ◌∷◌, map, Option, Some, None, option_map, codes}
+use Rattle.std.specs.Prelude.{ℕ, Bool, List, [], ◌∷◌, map, Option, Some, None, option_map}
 use Rattle.model_defs.specs.Model.{TagModel}
 use Rattle.entry_defs.specs.Entry.{State, Entry, any_entry, item, Shape, Entries, no_entries, entry_then, entry_again, Fields, field_then, field_again, Variants, no_variants, variant_then, Contents, unit_contents, newtype_contents, tuple_contents, struct_contents, no_fields}
-use Rattle.naming_defs.specs.Names.{Names, field_name, variant_name, name_by, named, named_fields, named_shape}
+use Rattle.naming_defs.specs.Names.{Names, is_value, values, bound, bound_is_good, field_name, variant_name, name_by, named, named_fields, named_shape}
 use Rattle.naming_defs.specs.Good.{is_good_name}
-use Rattle.entry_defs.specs.Table.{TargetEntry}
-use Rattle.good_names.specs.Given.{Named, name_given}
+use Rattle.entry_defs.specs.Table.{ItemEntry, TargetEntry}
+use Rattle.good_names.specs.Given.{Named, item_given}
 use Rattle.row_findings.specs.View.{state_view}
 use Rattle.tree_types.specs.View.{label_view, tree_view}
 use Rattle.std.specs.declared.alloc.Global.{Global}
@@ -53,18 +53,34 @@ contents_of kinds.Struct ps = struct_contents (fields_of ps no_fields)
 abbrev pub part_named : PartD → Names → Names → Named PartD
 part_named p beside t = elim p.entry [ None ↦ (t, p) | Some e ↦ (let a = named is_good_name beside e t in (a.0, record p { entry = Some a.1 })) ]
 
--- a part is identified within its container
+-- a part is identified within its container, by a name that fits
+abbrev pub part_identified_by : (List ℕ → Bool) → PartD → Names → Names → Named PartD
+part_identified_by fits p beside t = let n = field_name fits t beside p.name in (n ∷ t, record p { identifier = n })
+
 abbrev pub part_identified : PartD → Names → Names → Named PartD
-part_identified p beside t = let n = field_name is_good_name t beside p.name in (n ∷ t, record p { identifier = n })
+part_identified p beside t = part_identified_by is_good_name p beside t
+
+-- where patterns bind it
+abbrev pub part_bound : PartD → Names → Names → Named PartD
+part_bound p beside t = part_identified_by (bound_is_good is_good_name) p beside t
 
 abbrev pub names_of : List PartD → Names
 names_of ps = map (λ p. p.name) ps
 
+abbrev pub identifiers_of : List PartD → Names
+identifiers_of ps = map (λ p. p.identifier) ps
+
 abbrev pub parts_named : List PartD → Names → Names → Named (List PartD)
 parts_named ps beside t = each (λ p. part_named p beside) ps t
 
+abbrev pub parts_identified_by : (List ℕ → Bool) → List PartD → Names → Names → Named (List PartD)
+parts_identified_by fits ps beside t = each (λ p. part_identified_by fits p beside) ps t
+
 abbrev pub parts_identified : List PartD → Names → Names → Named (List PartD)
 parts_identified ps beside t = each (λ p. part_identified p beside) ps t
+
+abbrev pub parts_bound : List PartD → Names → Names → Named (List PartD)
+parts_bound ps beside t = each (λ p. part_bound p beside) ps t
 
 -- the first part alone
 abbrev pub front_named : List PartD → Names → Names → Named (List PartD)
@@ -75,7 +91,9 @@ abbrev pub contents_named : ContentKind → List PartD → Names → Names → N
 contents_named kinds.Unit ps beside t = (t, [])
 contents_named kinds.Newtype ps beside t = front_named ps beside t
 contents_named kinds.Tuple ps beside t = parts_named ps beside t
-contents_named kinds.Struct ps beside t = let a = parts_named ps beside t in (a.0, (parts_identified a.1 (names_of a.1) []).1)
+contents_named kinds.Struct ps beside t =
+    let a = parts_named ps beside t in let c = (parts_bound a.1 (names_of a.1) (values a.0)).1 in
+    (bound (identifiers_of c) a.0, c)
 
 -- ---- entries
 
@@ -124,9 +142,13 @@ variants_identified tag ws beside t = each (λ w. variant_identified tag w besid
 
 -- ---- tables
 
+-- the name of an item, whatever it holds
+abbrev pub item_given_to : ItemEntry → Names → Names → Named (List ℕ)
+item_given_to i = item_given (is_value i.shape) i.name
+
 -- the names of the items that references lead to
 abbrev pub targets_given : List TargetEntry → Names → Names → Named Names
-targets_given xs beside t = each (λ x. name_given (codes "Type") x.led_to.name beside) xs t
+targets_given xs beside t = each (λ x. item_given_to x.led_to beside) xs t
 
 -- what such an item of that name holds
 abbrev pub target_named : TargetEntry × List ℕ → Names → Names → Named TargetEntry

@@ -1,11 +1,12 @@
 //! Identifiers of fields and variants, each within its container.
-ghost use Rattle.std.specs.Prelude.{◌≡◌, ℕ, List, [], ◌∷◌, ◌++◌, IfOk, OnOk, map, codes, string_bytes};
-ghost use Rattle.naming_defs.specs.Names.{Names, name_by, identified_fields as fields_identified};
+ghost use Rattle.std.specs.Prelude.{◌≡◌, ℕ, List, [], ◌∷◌, ◌++◌, Bool, IfOk, OnOk, map, codes, string_bytes};
+ghost use Rattle.entry_defs.specs.Entry.{struct_shape};
+ghost use Rattle.naming_defs.specs.Names.{Names, name_by, is_value, values, bound, identified_fields as fields_identified};
 ghost use Rattle.naming_defs.specs.Good.{is_good_name};
-ghost use Rattle.good_names.specs.Given.{Stands, Does};
+ghost use Rattle.good_names.specs.Given.{Stands, Does, DoesWithin, has_value};
 ghost use Rattle.row_findings.specs.View.{tag_view};
 ghost use Rattle.tree_types.specs.View.{rest_fields, label_view};
-ghost use Rattle.tree_names.specs.Seen.{part_view, names_of, fields_of, part_identified, parts_identified, variant_view, name_in, variant_given, variant_identified, variants_identified};
+ghost use Rattle.tree_names.specs.Seen.{part_view, names_of, identifiers_of, fields_of, part_identified, parts_identified, part_bound, parts_bound, variant_view, name_in, variant_given, variant_identified, variants_identified};
 
 use crate::labels::new_label;
 use good_names::GivenNames;
@@ -72,17 +73,114 @@ fn identified_parts<'d>(
     Ok(identified)
 }
 
-/// The fields of a variant with their identifiers.
-#[tactic(auto, using(crate::proofs::Walks::contents_identified))]
-pub(crate) fn identified_contents<'d>(
+#[tactic(auto, using(crate::proofs::Walks::part_bound_does))]
+fn bound_part<'d>(
     alloc: Global,
+    items: &GivenNames,
+    names: &mut GivenNames,
+    part: (FieldHead<'d>, Option<Tree<'d>>),
+) -> Result<(FieldHead<'d>, Option<Tree<'d>>), AllocError>
+    ensures { IfOk result (λ p. DoesWithin (has_value items.now) (codes "field") names.old names.new (part_view p) (part_bound (part_view part.entry))) }
+{
+    let (head, tree) = part;
+    let wanted = head.label.wanted;
+    let given = names.give_within(alloc, items, wanted)?;
+    let head = FieldHead {
+        label: Label {
+            wanted,
+            given: Some(given),
+        },
+        state: head.state,
+    };
+    Ok((head, tree))
+}
+
+#[tactic(auto, using(crate::proofs::Turns::fields_bound_begin, crate::proofs::Turns::fields_bound_turn, crate::proofs::Turns::fields_bound_end))]
+fn bound_parts<'d>(
+    alloc: Global,
+    items: &GivenNames,
+    names: &mut GivenNames,
     fields: Vec<(FieldHead<'d>, Option<Tree<'d>>)>,
 ) -> Result<Vec<(FieldHead<'d>, Option<Tree<'d>>)>, AllocError>
-    ensures { IfOk result (λ v. map part_view v.items ≡ (parts_identified (map part_view fields.entry.items) (names_of (map part_view fields.entry.items)) []).1) }
+    ensures { IfOk result (λ v. DoesWithin (has_value items.now) (codes "field") names.old names.new (map part_view v.items) (parts_bound (map part_view fields.entry.items))) }
+{
+    let mut identified = Vec::with_capacity(alloc, fields.len())?;
+    for part in fields {
+        let part = bound_part(alloc, items, names, part)?;
+        identified.push(part)?;
+    }
+    Ok(identified)
+}
+
+/// The fields of a variant with their identifiers, none of which is the name of a value among the items.
+#[tactic(auto, using(crate::proofs::Walks::contents_bound))]
+pub(crate) fn bound_contents<'d>(
+    alloc: Global,
+    items: &GivenNames,
+    fields: Vec<(FieldHead<'d>, Option<Tree<'d>>)>,
+) -> Result<Vec<(FieldHead<'d>, Option<Tree<'d>>)>, AllocError>
+    ensures { IfOk result (λ v. (beside t : Names) → Stands items.now (codes "Type") t beside → map part_view v.items ≡ (parts_bound (map part_view fields.entry.items) (names_of (map part_view fields.entry.items)) (values t)).1) }
 {
     let mut names = wanted_of_fields(alloc, &fields)?;
-    let fields = identified_parts(alloc, &mut names, fields)?;
+    let fields = bound_parts(alloc, items, &mut names, fields)?;
     Ok(fields)
+}
+
+fn take_label<'d>(
+    alloc: Global,
+    names: &mut GivenNames,
+    label: &Label<'d>,
+) -> Result<(), AllocError>
+    ensures { OnOk result ((prefix : List ℕ) (given beside : Names) → Stands names.old prefix given beside → Stands names.new prefix (label_view label.now ∷ given) beside) }
+{
+    match &label.given {
+        Some(name) => {
+            names.take(alloc, name)?;
+            Ok(())
+        }
+        None => {
+            names.take(alloc, label.wanted)?;
+            Ok(())
+        }
+    }
+}
+
+/// Takes the identifiers of a variant's fields, so that no item has them.
+pub(crate) fn take_bound<'d>(
+    alloc: Global,
+    names: &mut GivenNames,
+    fields: &Vec<(FieldHead<'d>, Option<Tree<'d>>)>,
+) -> Result<(), AllocError>
+    ensures { OnOk result ((prefix : List ℕ) (given beside : Names) → Stands names.old prefix given beside → Stands names.new prefix (bound (identifiers_of (map part_view fields.now.items)) given) beside) }
+{
+    for part in fields {
+        take_label(alloc, names, &part.0.label)?;
+    }
+    Ok(())
+}
+
+#[tactic(auto, using(crate::proofs::Parts::without_rest, crate::proofs::Parts::with_rest))]
+fn has_no_rest<'d>(rest: &Option<(Label<'d>, Box<Tree<'d>>)>) -> bool
+    ensures { (closed : Bool) → result ≡ is_value (struct_shape closed (rest_fields rest.now)) }
+{
+    match rest {
+        None => true,
+        Some(_) => false,
+    }
+}
+
+/// Whether a struct has no fields at all, so that its name is kept off patterns.
+#[tactic(auto, using(crate::proofs::Parts::with_field))]
+pub(crate) fn has_no_fields<'d>(
+    fields: &Vec<(FieldHead<'d>, Option<Tree<'d>>)>,
+    rest: &Option<(Label<'d>, Box<Tree<'d>>)>,
+) -> bool
+    ensures { (closed : Bool) → result ≡ is_value (struct_shape closed (fields_of (map part_view fields.now.items) (rest_fields rest.now))) }
+{
+    match fields.first() {
+        Some(_) => false,
+        None => has_no_rest(rest),
+    }
 }
 
 /// The fields of a struct and its rest, with their identifiers.

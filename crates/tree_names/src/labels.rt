@@ -1,6 +1,6 @@
 //! Labels with the names that are given, and copies of what has none.
-ghost use Rattle.std.specs.Prelude.{◌≡◌, IfOk};
-ghost use Rattle.good_names.specs.Given.{Does, name_given};
+ghost use Rattle.std.specs.Prelude.{◌≡◌, IfOk, codes};
+ghost use Rattle.good_names.specs.Given.{Does, name_given, item_given};
 ghost use Rattle.tree_types.specs.View.{atom_view, label_view, target_view};
 
 use good_names::GivenNames;
@@ -27,6 +27,34 @@ pub(crate) fn new_label<'d>(
         }
         None => {
             let given = names.give(alloc, prefix, label.wanted)?;
+            Ok(Label {
+                wanted: label.wanted,
+                given: Some(given),
+            })
+        }
+    }
+}
+
+/// The label with the name that is given for the one that it has, as an item's. The item may stand for a value.
+pub(crate) fn item_label<'d>(
+    alloc: Global,
+    names: &mut GivenNames,
+    label: &Label<'d>,
+    is_value: bool,
+) -> Result<Label<'d>, AllocError>
+    ensures named { IfOk result (λ l. Does (codes "Type") names.old names.new (label_view l) (item_given is_value (label_view label.now))) }
+    ensures wanted { IfOk result (λ l. l.wanted.now ≡ label.now.wanted.now) }
+{
+    match &label.given {
+        Some(name) => {
+            let given = names.give_item(alloc, name, is_value)?;
+            Ok(Label {
+                wanted: label.wanted,
+                given: Some(given),
+            })
+        }
+        None => {
+            let given = names.give_item(alloc, label.wanted, is_value)?;
             Ok(Label {
                 wanted: label.wanted,
                 given: Some(given),

@@ -1,15 +1,15 @@
 //! Tables of trees with their names.
-ghost use Rattle.std.specs.Prelude.{◌≡◌, ◌++◌, ℕ, List, [], ◌∷◌, IfOk, OnOk, map, option_map, length, codes};
+ghost use Rattle.std.specs.Prelude.{◌≡◌, ◌++◌, ℕ, List, [], ◌∷◌, true, IfOk, OnOk, map, option_map, length, codes};
 ghost use Rattle.entry_defs.specs.Entry.{newtype_shape};
 ghost use Rattle.naming_defs.specs.Names.{Names, keys, named_table as table_named};
 ghost use Rattle.naming_defs.specs.Good.{is_good_name};
-ghost use Rattle.good_names.specs.Given.{Stands, Does, name_given};
+ghost use Rattle.good_names.specs.Given.{Stands, Does, item_given};
 ghost use Rattle.tree_types.specs.View.{label_view, rule_view, wrapped, tree_view, item_in, target_entry, table_view};
 ghost use Rattle.tree_names.specs.Folded.{targets_first};
-ghost use Rattle.tree_names.specs.Seen.{item_named, target_named, targets_given, targets_named, trees_named, with_names};
+ghost use Rattle.tree_names.specs.Seen.{item_named, item_given_to, target_named, targets_given, targets_named, trees_named, with_names};
 
-use crate::identify::{identified_members, identified_variants};
-use crate::labels::{copy_label, copy_target, new_label};
+use crate::identify::{has_no_fields, identified_members, identified_variants};
+use crate::labels::{copy_label, copy_target, item_label};
 use crate::walk::{named_parts, named_rest, named_tree, named_variants};
 use good_names::GivenNames;
 use std::alloc::{AllocError, Global};
@@ -48,9 +48,9 @@ fn wanted_of_keys<'d>(
 
 // The label of a tree that is no item.
 fn other_label<'d>(alloc: Global, names: &mut GivenNames) -> Result<Label<'d>, AllocError>
-    ensures { IfOk result (λ l. Does (codes "Type") names.old names.new (label_view l) (name_given (codes "Type") [])) }
+    ensures { IfOk result (λ l. Does (codes "Type") names.old names.new (label_view l) (item_given true [])) }
 {
-    let given = names.give(alloc, "Type", "")?;
+    let given = names.give_item(alloc, "", true)?;
     Ok(Label {
         wanted: "",
         given: Some(given),
@@ -63,11 +63,11 @@ fn wrap_label<'d>(
     wrap: &Wrap<'d>,
     inner: &Tree<'d>,
 ) -> Result<Label<'d>, AllocError>
-    ensures { IfOk result (λ l. Does (codes "Type") names.old names.new (label_view l) (name_given (codes "Type") (item_in (wrapped wrap.now (tree_view inner.now))).name)) }
+    ensures { IfOk result (λ l. Does (codes "Type") names.old names.new (label_view l) (item_given_to (item_in (wrapped wrap.now (tree_view inner.now))))) }
 {
     match wrap {
         Wrap::Newtype { name, .. } => {
-            let label = new_label(alloc, names, "Type", name)?;
+            let label = item_label(alloc, names, name, true)?;
             Ok(label)
         }
         Wrap::Option => {
@@ -90,21 +90,27 @@ fn wrap_label<'d>(
 }
 
 // The name of the item that a reference leads to.
-#[tactic(auto, using(crate::proofs::Led::struct_label, crate::proofs::Led::enum_label, crate::proofs::Led::one_label, crate::proofs::Led::atom_label, crate::proofs::Led::map_label, crate::proofs::Led::tuple_label))]
+#[tactic(auto, using(crate::proofs::Led::enum_label, crate::proofs::Led::one_label, crate::proofs::Led::atom_label, crate::proofs::Led::map_label, crate::proofs::Led::tuple_label))]
 fn target_label<'d>(
     alloc: Global,
     names: &mut GivenNames,
     tree: &Tree<'d>,
 ) -> Result<Label<'d>, AllocError>
-    ensures { IfOk result (λ l. Does (codes "Type") names.old names.new (label_view l) (name_given (codes "Type") (item_in (tree_view tree.now)).name)) }
+    ensures { IfOk result (λ l. Does (codes "Type") names.old names.new (label_view l) (item_given_to (item_in (tree_view tree.now)))) }
 {
     match tree {
-        Tree::Struct { name, .. } => {
-            let label = new_label(alloc, names, "Type", name)?;
+        Tree::Struct {
+            name,
+            fields,
+            rest,
+            ..
+        } => {
+            let is_value = has_no_fields(fields, rest);
+            let label = item_label(alloc, names, name, is_value)?;
             Ok(label)
         }
         Tree::Enum { name, .. } => {
-            let label = new_label(alloc, names, "Type", name)?;
+            let label = item_label(alloc, names, name, false)?;
             Ok(label)
         }
         Tree::One(wrap, inner) => {

@@ -4,8 +4,10 @@ ghost use Rattle.good_names.specs.Given.{Does};
 ghost use Rattle.tree_types.specs.View.{rest_fields, wrapped, tree_view};
 ghost use Rattle.tree_names.specs.Seen.{part_view, part_named, parts_named, contents_named, variant_view, variant_named, variants_named, entry_named, rest_named};
 
-use crate::identify::{identified_contents, identified_members, identified_variants};
-use crate::labels::{copy_atom, copy_label, new_label};
+use crate::identify::{
+    bound_contents, has_no_fields, identified_members, identified_variants, take_bound,
+};
+use crate::labels::{copy_atom, copy_label, item_label};
 use good_names::GivenNames;
 use std::alloc::{AllocError, Global};
 use tree_types::{ContentKind, FieldHead, Label, Tree, VariantHead, Wrap};
@@ -42,7 +44,8 @@ pub fn named_tree<'d>(
             fields,
             rest,
         } => {
-            let name = new_label(alloc, names, "Type", name)?;
+            let is_value = has_no_fields(fields, rest);
+            let name = item_label(alloc, names, name, is_value)?;
             let fields = named_parts(alloc, names, fields)?;
             let rest = named_rest(alloc, names, rest)?;
             let members = identified_members(alloc, fields, rest)?;
@@ -59,7 +62,7 @@ pub fn named_tree<'d>(
             tag,
             variants,
         } => {
-            let name = new_label(alloc, names, "Type", name)?;
+            let name = item_label(alloc, names, name, false)?;
             let variants = named_variants(alloc, names, variants)?;
             let variants = identified_variants(alloc, *tag, variants)?;
             Ok(Tree::Enum {
@@ -112,7 +115,7 @@ fn named_one<'d>(
             Ok(Tree::One(Wrap::Array(*count), inner))
         }
         Wrap::Newtype { name, rule } => {
-            let name = new_label(alloc, names, "Type", name)?;
+            let name = item_label(alloc, names, name, true)?;
             let inner = named_box(alloc, names, inner)?;
             Ok(Tree::One(Wrap::Newtype { name, rule: *rule }, inner))
         }
@@ -201,7 +204,8 @@ fn named_contents<'d>(
         }
         ContentKind::Struct => {
             let parts = named_parts(alloc, names, from)?;
-            let parts = identified_contents(alloc, parts)?;
+            let parts = bound_contents(alloc, names, parts)?;
+            take_bound(alloc, names, &parts)?;
             Ok(parts)
         }
     }

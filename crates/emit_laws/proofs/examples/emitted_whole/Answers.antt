@@ -2,6 +2,7 @@ use Rattle.std.proofs.Common.{◌≡◌, Bool, refl, ◌∙◌, ◌++◌, [], �
 use Rattle.std.specs.List.{IsDistinct, AllByRecursion}
 use Rattle.std.specs.Str.{chars, is_utf8}
 use Rattle.unicode_ident.proofs.Computing.{unicode_ident}
+use Rattle.unicode_normalization.proofs.Computing.{unicode_normalization}
 use Rattle.json_value.specs.Value.{Value}
 use Rattle.schema_defs.specs.Build.{◌≔◌, str, obj, sample}
 use Rattle.attr_parts.specs.declared.derive.Derive.TheVariants.{Deserialize}
@@ -20,7 +21,7 @@ use Rattle.emit_laws.proofs.Assembled.{nothing_is_told, items_mean_entries, tree
 use Rattle.emit_laws.proofs.examples.emitted_whole.Goals as goal
 
 named_20 : AllByRecursion (λ i. (is_good_name i.name ≡ true) × ShapeIsGood is_good_name i.shape) (items_of row_20)
-unfolding IsDistinct chars is_utf8 unicode_ident lib.Utf8.encode
+unfolding IsDistinct chars is_utf8 unicode_ident unicode_normalization lib.Utf8.encode
 named_20 = (
   (refl, ((((refl, tt), (tt, tt)), (refl, (refl, tt))), (tt, ((((refl, tt), (tt, tt)), (refl, (refl, tt))), tt)))),
   (

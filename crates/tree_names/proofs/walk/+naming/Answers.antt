@@ -48,5 +48,5 @@ named_rest-named_box-requires t c =
 
 pub named_tree-returns-in_ok-members-in-Struct : goal.named_tree-returns-in_ok-members-in-Struct
 named_tree-returns-in_ok-members-in-Struct t c =
-    struct_walked _ _ _ _ c.args.from.now c.in-Struct.name c.in_ok-name-in-Struct.name c.in-Struct.closed c.in-Struct.fields c.in_ok-fields-in-Struct.fields c.in_ok-members-in-Struct.members.fields c.in-Struct.rest c.in_ok-rest-in-Struct.rest
-    c.in_ok-members-in-Struct.members.rest c.in-Struct.is c.in_ok-name-in-Struct.ensures.named c.in_ok-fields-in-Struct.ensures c.in_ok-rest-in-Struct.ensures c.in_ok-members-in-Struct.ensures
+    struct_walked _ _ _ _ c.args.from.now c.in-Struct.name c.in_ok-name-in-Struct.name c.in-Struct.closed c.has_no_fields-is_value.result c.in-Struct.fields c.in_ok-fields-in-Struct.fields c.in_ok-members-in-Struct.members.fields c.in-Struct.rest c.in_ok-rest-in-Struct.rest
+    c.in_ok-members-in-Struct.members.rest c.in-Struct.is c.has_no_fields-is_value.ensures c.in_ok-name-in-Struct.ensures.named c.in_ok-fields-in-Struct.ensures c.in_ok-rest-in-Struct.ensures c.in_ok-members-in-Struct.ensures

@@ -1,0 +1,3 @@
+mod Apart
+mod Walked
+pub mod Bindable
