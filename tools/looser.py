@@ -17,6 +17,10 @@ KINDS = {
     "content-absent": "a variant of an enum in adjacent form whose content is an option is also read without a content",
     "content-at-unit": "a unit variant of an enum in adjacent form also takes null as its content",
     "tag-by-number": "where a value was buffered (inside an untagged or an internal enum, or in a rest) the tag of an enum in internal form may be a variant's number",
+    "tag-as-object": "the tag of an enum in adjacent form may be an object with a variant's name and null",
+    "empty-for-null": "where a value was buffered, as above, an object without members is also read where null stands alone",
+    "equal-sets": "items of a set that differ in the order of sets inside them are equal for std, and two for the program",
+    "urn-capitals": "a release of crate uuid may refuse a text that begins with `URN:` in capitals",
     "native": "the types for uuid, date, date-time and ip take some texts more, and write equal values in one form",
 }
 
@@ -85,7 +89,8 @@ class Reader:
         """What the value is written as after it was read, or Refused."""
         if ty[0] == "tuple":
             if not ty[1]:
-                return self.only(value is None, value)
+                self.only(self.is_null(value, buffered), value)
+                return None
             return self.places(ty[1], value, buffered)
         if ty[0] == "array":
             return self.places([ty[1]] * ty[2], value, buffered)
@@ -99,10 +104,15 @@ class Reader:
         if ty[1] == "std::string::String":
             return self.only(isinstance(value, str), value)
         if ty[1] in NATIVE:
+            if ty[1] == "uuid::Uuid" and isinstance(value, str) and "urn-capitals" in self.kinds:
+                self.only(value.startswith("urn:uuid:") or not value.lower().startswith("urn:uuid:"), value)
             return Native(self.only(isinstance(value, str), value))
         if ty[1] == "serde_json::Value":
             return value
         return self.held(ty, value, buffered)
+
+    def is_null(self, value, buffered):
+        return value is None or (buffered and value == {} and "empty-for-null" in self.kinds)
 
     def held(self, ty, value, buffered):
         if ty[1] == OPTION:
@@ -114,10 +124,10 @@ class Reader:
             return [self.read(ty[2][0], one, buffered) for one in value]
         if ty[1] == SET:
             self.only(isinstance(value, list), value)
-            kept = SetOf()
+            kept, alike = SetOf(), {"set-order"} if "equal-sets" in self.kinds else set()
             for one in value:
                 part = self.read(ty[2][0], one, buffered)
-                if not any(same(other, part, {"set-order"}) for other in kept):
+                if not any(same(other, part, alike) for other in kept):
                     kept.append(part)
             return kept
         if ty[1] == MAP:
@@ -157,9 +167,17 @@ class Reader:
         """What a field that is missing is written as: a list of at most one value."""
         if "default" in field.metas:
             path = field.metas["default"]
-            return [] if path is None else [self.stated[path]]
+            return [] if path is None else self.default(field, self.stated[path])
         self.only("deserialize_with" not in field.metas and self.leads_to_option(field.type), None)
         return [None]
+
+    def default(self, field, value):
+        """What a stated default is written as: it is read as the field's type, so that its sets are sets."""
+        try:
+            part = self.read(field.type, value)
+        except Refused:
+            return [value]
+        return [] if field.skips and is_empty(field.type, part) else [part]
 
     def leads_to_option(self, ty):
         if ty[0] == "path":
@@ -234,7 +252,7 @@ class Reader:
         name, content = next(iter(value.items()))
         variant = self.named(item, name)
         if variant.style == "unit":
-            self.only("object-for-unit" in self.kinds and content is None, value)
+            self.only("object-for-unit" in self.kinds and self.is_null(content, buffered), value)
             return variant.json
         return {variant.json: self.content(item, variant, content, buffered)}
 
@@ -260,7 +278,11 @@ class Reader:
             value = dict(zip((tag, content), value))
         self.only(isinstance(value, dict) and tag in value, value)
         self.only(not item.is_closed or value.keys() <= {tag, content}, value)
-        variant = self.tagged(item, value[tag])
+        named = value[tag]
+        if isinstance(named, dict) and len(named) == 1 and "tag-as-object" in self.kinds:
+            named, inner = next(iter(named.items()))
+            self.only(self.is_null(inner, buffered), value)
+        variant = self.tagged(item, named)
         done = {tag: variant.json}
         if variant.style == "unit":
             self.only(content not in value or ("content-at-unit" in self.kinds and value[content] is None), value)

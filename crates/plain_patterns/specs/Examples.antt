@@ -1,5 +1,5 @@
 -- Worked examples: how plain patterns are rewritten, and patterns that are not plain.
-use Rattle.std.specs.Prelude.{◌≡◌, Some, None, codes}
+use Rattle.std.specs.Prelude.{◌≡◌, [], ◌∷◌, ◌++◌, Some, None, codes}
 use Rattle.plain_patterns.specs.Plain.{rewritten}
 
 pub record PlainExamples : Type 0 where
@@ -28,38 +28,81 @@ pub record PlainExamples : Type 0 where
   pub escaped_bracket : rewritten (codes "[\\]]") ≡ Some (codes "[\\]]")
   pub sets_inside : rewritten (codes "[\\d\\w.]") ≡ Some (codes "[[0-9][0-9A-Za-z_]\\.]")
   pub mail : rewritten (codes "^\\w+@\\w+\\.\\w+$") ≡ Some (codes "^[0-9A-Za-z_]+\\@[0-9A-Za-z_]+\\.[0-9A-Za-z_]+$")
+  pub lazy : rewritten (codes "a+?b*?c??") ≡ Some (codes "a+?b*?c??")
+  pub lazy_counts : rewritten (codes "a{2}?b{2,}?c{2,3}?") ≡ Some (codes "a{2}?b{2,}?c{2,3}?")
+  pub no_capture : rewritten (codes "(?:a)+") ≡ Some (codes "(?:a)+")
+  pub spaces : rewritten (codes "\\s\\S") ≡ Some (codes "[\\t-\\r \\x{A0}\\x{1680}\\x{2000}-\\x{200A}\\x{2028}\\x{2029}\\x{202F}\\x{205F}\\x{3000}\\x{FEFF}][^\\t-\\r \\x{A0}\\x{1680}\\x{2000}-\\x{200A}\\x{2028}\\x{2029}\\x{202F}\\x{205F}\\x{3000}\\x{FEFF}]")
+  pub other_digits : rewritten (codes "\\D") ≡ Some (codes "[^0-9]")
+  pub other_words : rewritten (codes "[^\\W_]") ≡ Some (codes "[^[^0-9A-Za-z_]\\_]")
+  pub boundaries : rewritten (codes "\\bone\\B") ≡ Some (codes "(?-u:\\b)one(?-u:\\B)")
+  pub backspace : rewritten (codes "[\\b]") ≡ Some (codes "[" ++ (8 ∷ []) ++ codes "]")
+  pub controls : rewritten (codes "\\t\\n\\v\\f\\r") ≡ Some ((9 ∷ []) ++ (10 ∷ []) ++ (11 ∷ []) ++ (12 ∷ []) ++ (13 ∷ []))
+  pub control_letters : rewritten (codes "\\cA\\cz") ≡ Some ((1 ∷ []) ++ (26 ∷ []))
+  pub null : rewritten (codes "\\0a") ≡ Some ((0 ∷ []) ++ codes "a")
+  pub codes_of_two : rewritten (codes "\\x41\\xe9") ≡ Some (codes "A" ++ (195 ∷ 169 ∷ []))
+  pub codes_of_four : rewritten (codes "\\u0041\\u20AC\\uFFFF") ≡ Some (codes "A" ++ (226 ∷ 130 ∷ 172 ∷ []) ++ (239 ∷ 191 ∷ 191 ∷ []))
+  pub pair : rewritten (codes "\\uD83D\\uDE00") ≡ Some ((240 ∷ 159 ∷ 152 ∷ 128 ∷ []))
+  pub range_of_codes : rewritten (codes "[\\u0020-\\uD7FF\\uE000-\\uFFFD\\uD800\\uDC00-\\uDBFF\\uDFFF]") ≡ Some (codes "[ -" ++ (237 ∷ 159 ∷ 191 ∷ []) ++ (238 ∷ 128 ∷ 128 ∷ []) ++ codes "-" ++ (239 ∷ 191 ∷ 189 ∷ []) ++ (240 ∷ 144 ∷ 128 ∷ 128 ∷ []) ++ codes "-" ++ (244 ∷ 143 ∷ 191 ∷ 191 ∷ []) ++ codes "]")
+  pub range_beyond : rewritten (codes "[" ++ (208 ∷ 176 ∷ []) ++ codes "-" ++ (209 ∷ 143 ∷ []) ++ codes "]") ≡ Some (codes "[" ++ (208 ∷ 176 ∷ []) ++ codes "-" ++ (209 ∷ 143 ∷ []) ++ codes "]")
+  pub empty_class : rewritten (codes "[]") ≡ Some (codes "[^\\x{0}-\\x{10FFFF}]")
+  pub everything : rewritten (codes "[^]") ≡ Some (codes "[\\x{0}-\\x{10FFFF}]")
+  pub hyphen_beside_set : rewritten (codes "[\\w-.]") ≡ Some (codes "[[0-9A-Za-z_]\\-\\.]")
+  pub set_behind_hyphen : rewritten (codes "[a-\\d]") ≡ Some (codes "[a\\-[0-9]]")
+  pub hyphen_before_range : rewritten (codes "[\\d-a-z]") ≡ Some (codes "[[0-9]\\-a\\-z]")
+  pub brace : rewritten (codes "{a}") ≡ Some (codes "\\{a\\}")
+  pub no_count : rewritten (codes "a{}") ≡ Some (codes "a\\{\\}")
+  pub least_missing : rewritten (codes "a{,2}") ≡ Some (codes "a\\{\\,2\\}")
+  pub space : rewritten (codes "a{1, 2}") ≡ Some (codes "a\\{1\\, 2\\}")
+  pub open_brace : rewritten (codes "a{2") ≡ Some (codes "a\\{2")
+  pub brace_behind_count : rewritten (codes "a{2}{") ≡ Some (codes "a{2}\\{")
+  pub bracket : rewritten (codes "]") ≡ Some (codes "\\]")
+  pub blank : rewritten (codes "\\ \\" ++ (195 ∷ 169 ∷ [])) ≡ Some (codes " " ++ (195 ∷ 169 ∷ []))
+  pub categories : rewritten (codes "[\\p{L}\\P{Nd}]+") ≡ Some (codes "[\\p{gc=L}\\P{gc=Nd}]+")
+  pub code_in_braces : rewritten (codes "\\u{41}\\u{1F600}") ≡ Some (codes "A" ++ (240 ∷ 159 ∷ 152 ∷ 128 ∷ []))
+  pub hyphen_in_unicode_mode : rewritten (codes "\\p{L}[+\\-]") ≡ Some (codes "\\p{gc=L}[\\+\\-]")
 
 pub record OtherExamples : Type 0 where
   pub lone_star : rewritten (codes "*a") ≡ None
   pub star_after_bar : rewritten (codes "a|*") ≡ None
   pub star_in_group : rewritten (codes "(*a)") ≡ None
-  pub lazy : rewritten (codes "a+?") ≡ None
   pub twice : rewritten (codes "a**") ≡ None
   pub possessive : rewritten (codes "a++") ≡ None
   pub start_repeated : rewritten (codes "^*") ≡ None
   pub end_repeated : rewritten (codes "$?") ≡ None
   pub look_ahead : rewritten (codes "(?=a)") ≡ None
-  pub no_capture : rewritten (codes "(?:a)") ≡ None
   pub open_group : rewritten (codes "(a") ≡ None
   pub closed_group : rewritten (codes "a)") ≡ None
   pub open_class : rewritten (codes "[a") ≡ None
-  pub empty_class : rewritten (codes "[]") ≡ None
-  pub everything : rewritten (codes "[^]") ≡ None
   pub range_down : rewritten (codes "[z-a]") ≡ None
-  pub range_of_sets : rewritten (codes "[\\d-z]") ≡ None
-  pub brace : rewritten (codes "{") ≡ None
-  pub closing_brace : rewritten (codes "a}") ≡ None
-  pub bracket : rewritten (codes "]") ≡ None
-  pub no_count : rewritten (codes "a{}") ≡ None
-  pub least_missing : rewritten (codes "a{,2}") ≡ None
   pub counts_down : rewritten (codes "a{3,2}") ≡ None
-  pub space : rewritten (codes "a{1, 2}") ≡ None
-  pub open_brace : rewritten (codes "a{2") ≡ None
-  pub space_class : rewritten (codes "\\s") ≡ None
-  pub boundary : rewritten (codes "\\b") ≡ None
-  pub no_digit : rewritten (codes "\\D") ≡ None
-  pub line_end : rewritten (codes "\\n") ≡ None
   pub back_reference : rewritten (codes "(a)\\1") ≡ None
-  pub code : rewritten (codes "\\x41") ≡ None
   pub property : rewritten (codes "\\pL") ≡ None
   pub backslash : rewritten (codes "a\\") ≡ None
+  pub lazy_twice : rewritten (codes "a???") ≡ None
+  pub brace_alone : rewritten (codes "{2}") ≡ None
+  pub count_past : rewritten (codes "a{4294967296}") ≡ None
+  pub most_past : rewritten (codes "a{0,4294967296}") ≡ None
+  pub counts_twice : rewritten (codes "a{2}{3}") ≡ None
+  pub boundary_repeated : rewritten (codes "\\b*") ≡ None
+  pub look_behind : rewritten (codes "(?<=a)") ≡ None
+  pub name : rewritten (codes "(?<a>b)") ≡ None
+  pub flags : rewritten (codes "(?i)a") ≡ None
+  pub half_of_pair : rewritten (codes "\\uD83D") ≡ None
+  pub trail_alone : rewritten (codes "\\uDE00") ≡ None
+  pub lead_before_letter : rewritten (codes "\\uD83Da") ≡ None
+  pub lead_before_code : rewritten (codes "\\uD83D\\u0041") ≡ None
+  pub half_in_class : rewritten (codes "[\\uD800-\\uDFFF]") ≡ None
+  pub one_digit : rewritten (codes "\\x4") ≡ None
+  pub three_digits : rewritten (codes "\\u004") ≡ None
+  pub bracket_in_unicode_mode : rewritten (codes "\\p{L}]") ≡ None
+  pub set_in_range_in_unicode_mode : rewritten (codes "[\\p{L}-z]") ≡ None
+  pub hyphen_escaped_in_unicode_mode : rewritten (codes "\\p{L}\\-") ≡ None
+  pub long_category : rewritten (codes "\\p{Letter}") ≡ None
+  pub surrogates : rewritten (codes "\\p{Cs}") ≡ None
+  pub code_too_large : rewritten (codes "\\u{110000}") ≡ None
+  pub half_in_braces : rewritten (codes "\\u{D83D}") ≡ None
+  pub octal : rewritten (codes "\\00") ≡ None
+  pub control_digit : rewritten (codes "\\c1") ≡ None
+  pub start_of_text : rewritten (codes "\\A") ≡ None
+  pub letter_in_class : rewritten (codes "[\\B]") ≡ None
+  pub range_down_to_hyphen : rewritten (codes "[a--]") ≡ None

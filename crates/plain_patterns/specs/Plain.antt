@@ -1,16 +1,24 @@
--- Plain patterns, a part of the patterns of ECMA-262 (22.2.1): alternatives, terms, groups, `.`, classes of ASCII
--- characters, `^`, `$`, the quantifiers without a `?` behind, escaped punctuation, `\d` and `\w`. Each is rewritten for
--- `regex`, which reads some of these otherwise. A text is read as characters, and what is written is bytes.
-use Rattle.std.specs.Prelude.{ℕ, zero, suc, ◌+◌, ◌*◌, ◌-◌, ◌==◌, ◌&&◌, ◌||◌, not, nat_le, min, Bool, true, false, List, [], ◌∷◌, ◌++◌, length, drop, take, chars, codes, encode_utf8, Option, Some, None, is_some, option_map, option_and_then, if◌then◌else◌}
+-- Plain patterns, a part of the patterns of ECMA-262 (22.2.1, and B.1.2 for what stands for itself outside of unicode mode):
+-- alternatives, terms, groups with a capture and `(?:`, `^`, `$`, `\b`, `\B`, quantifiers with and without a `?` behind, `.`,
+-- escapes of characters and of sets, and classes. A pattern is read outside of unicode mode, or else in it, where `\u{..}` and
+-- `\p` have their meaning. Lookaround, references, names of groups and flags are no part of them, and neither is what would
+-- only mean a letter (`\A`), an octal number or half of a surrogate pair. Each is rewritten for `regex`, which reads some of
+-- these otherwise. A pattern and a text are read as characters, also where the standard reads code units, and what is
+-- written is bytes. In the definitions `u` says that unicode mode is on.
+use Rattle.std.specs.Prelude.{ℕ, zero, suc, ◌+◌, ◌*◌, ◌-◌, ◌%◌, ◌==◌, ◌&&◌, ◌||◌, not, nat_le, min, Bool, true, false, List, [], ◌∷◌, ◌++◌, length, drop, take, chars, codes, encode_utf8, Option, Some, None, is_some, option_map, option_and_then, if◌then◌else◌}
 use Rattle.std.specs.List.{list_any, flat_map, position_or_len}
-use Rattle.std.specs.Char.{is_ascii, is_ascii_digit, is_ascii_punctuation}
+use Rattle.std.specs.Option.{option_or}
+use Rattle.std.specs.Char.{digit_value, is_digit, is_ascii_alphabetic, is_ascii_alphanumeric, is_ascii_digit, is_ascii_punctuation}
+use Rattle.plain_patterns.specs.declared.atom.Set.{Set}
+use Rattle.plain_patterns.specs.declared.atom.Set.TheVariants.{Dot, Digit, NoDigit, Space, NoSpace, Word, NoWord, Category, Subcategory}
 use Rattle.plain_patterns.specs.declared.atom.Atom.{Atom}
-use Rattle.plain_patterns.specs.declared.atom.Atom.TheVariants.{Character, Dot, Digit, Word}
+use Rattle.plain_patterns.specs.declared.atom.Atom.TheVariants.{Character, Named}
 use Rattle.plain_patterns.specs.declared.atom.Member.{Member}
-use Rattle.plain_patterns.specs.declared.atom.Member.TheVariants.{Single, Range}
+use Rattle.plain_patterns.specs.declared.atom.Member.TheVariants.{Single, Range, Beside}
 use Rattle.plain_patterns.specs.declared.state.Kind.{Kind}
 use Rattle.plain_patterns.specs.declared.state.Kind.TheVariants.{Opening, Closing, Bar, Assertion, Item, Repetition}
 use Rattle.plain_patterns.specs.declared.state.State.{State}
+use lib.Utf8.{scalar}
 
 abbrev pub Text : Type 0
 Text = List ℕ
@@ -34,67 +42,226 @@ is_at c (d ∷ t) = d == c
 abbrev pub verbatim : ℕ → List ℕ
 verbatim c = if is_ascii_punctuation c && not (c == 60 || c == 62) then 92 ∷ encode_utf8 c else encode_utf8 c
 
--- `.` is any character that ends no line, `\d` a decimal digit, `\w` a letter, a digit or `_` (ECMA-262, 12.3 and 22.2.2)
+-- `.` is any character that ends no line (LineTerminator, 12.3). `\d` is a decimal digit, `\w` a letter or digit of ASCII or
+-- `_`, and `\s` what is white space (WhiteSpace, 12.2) or ends a line; `\D`, `\W` and `\S` are all others (22.2.2.9).
+-- `\p` and `\P` have a general category of Unicode, or all else.
+abbrev pub property_sign : Bool → List ℕ
+property_sign negated = if negated then codes "\\P{gc=" else codes "\\p{gc="
+
+abbrev pub set_bytes : Set → List ℕ
+set_bytes Dot = codes "[^\\n\\r\\x{2028}\\x{2029}]"
+set_bytes Digit = codes "[0-9]"
+set_bytes NoDigit = codes "[^0-9]"
+set_bytes Space = codes "[\\t-\\r \\x{A0}\\x{1680}\\x{2000}-\\x{200A}\\x{2028}\\x{2029}\\x{202F}\\x{205F}\\x{3000}\\x{FEFF}]"
+set_bytes NoSpace = codes "[^\\t-\\r \\x{A0}\\x{1680}\\x{2000}-\\x{200A}\\x{2028}\\x{2029}\\x{202F}\\x{205F}\\x{3000}\\x{FEFF}]"
+set_bytes Word = codes "[0-9A-Za-z_]"
+set_bytes NoWord = codes "[^0-9A-Za-z_]"
+set_bytes (Category negated a) = property_sign negated ++ encode_utf8 a ++ 125 ∷ []
+set_bytes (Subcategory negated a b) = property_sign negated ++ encode_utf8 a ++ encode_utf8 b ++ 125 ∷ []
+
 abbrev pub atom_bytes : Atom → List ℕ
 atom_bytes (Character c) = verbatim c
-atom_bytes Dot = codes "[^\\n\\r\\x{2028}\\x{2029}]"
-atom_bytes Digit = codes "[0-9]"
-atom_bytes Word = codes "[0-9A-Za-z_]"
+atom_bytes (Named s) = set_bytes s
+
+-- ---- escapes
+
+-- CharacterClassEscape and ControlEscape (22.2.1): letters that need nothing behind them
+abbrev pub letter : ℕ → Option Atom
+letter c =
+    if c == 100 then Some (Named Digit)
+    else if c == 68 then Some (Named NoDigit)
+    else if c == 115 then Some (Named Space)
+    else if c == 83 then Some (Named NoSpace)
+    else if c == 119 then Some (Named Word)
+    else if c == 87 then Some (Named NoWord)
+    else if c == 116 then Some (Character 9)
+    else if c == 110 then Some (Character 10)
+    else if c == 118 then Some (Character 11)
+    else if c == 102 then Some (Character 12)
+    else if c == 114 then Some (Character 13)
+    else None
+
+-- the character of a code, where that is no half of a surrogate pair
+abbrev pub character : ℕ → Option Atom
+character code = if scalar code then Some (Character code) else None
+
+-- an atom, and what follows
+abbrev pub Read : Type 0
+Read = Atom × Text
+
+abbrev pub coded : Option (ℕ × Text) → Option Read
+coded found = found >>= λ p. option_map {U = Read} (λ a. (a, p.1)) (character p.0)
+
+-- after `\0`: no digit
+abbrev pub null : Text → Option Read
+null [] = Some (Character 0, [])
+null (c ∷ t) = if is_ascii_digit c then None else Some (Character 0, c ∷ t)
+
+-- after `\c`: a letter, whose code counts modulo 32
+abbrev pub control : Text → Option (ℕ × Text)
+control [] = None
+control (c ∷ t) = if is_ascii_alphabetic c then Some (c % 32, t) else None
+
+-- two digits of sixteen
+abbrev pub hex_pair : Text → Option (ℕ × Text)
+hex_pair [] = None
+hex_pair (c ∷ []) = None
+hex_pair (c ∷ d ∷ t) = if is_digit c 16 && is_digit d 16 then Some (16 * digit_value c + digit_value d, t) else None
+
+-- four of them
+abbrev pub code_unit : Text → Option (ℕ × Text)
+code_unit t = hex_pair t >>= λ p. hex_pair p.1 >>= λ q. Some (256 * p.0 + q.0, q.1)
+
+abbrev pub is_lead : ℕ → Bool
+is_lead u = nat_le 55296 u && nat_le u 56319
+
+abbrev pub is_trail : ℕ → Bool
+is_trail u = nat_le 56320 u && nat_le u 57343
+
+-- what follows `\u`
+abbrev pub after_u : Text → Option Text
+after_u [] = None
+after_u (c ∷ []) = None
+after_u (c ∷ d ∷ t) = if c == 92 && d == 117 then Some t else None
+
+-- The code point of a surrogate pair (UTF16SurrogatePairToCodePoint, 11.1.3).
+abbrev pub pair_code : ℕ → ℕ × Text → Option (ℕ × Text)
+pair_code lead p = if is_trail p.0 then Some (65536 + (lead - 55296) * 1024 + (p.0 - 56320), p.1) else None
+
+-- after the first half of a surrogate pair: the second
+abbrev pub trail_after : ℕ → Text → Option (ℕ × Text)
+trail_after lead t = after_u t >>= λ u. code_unit u >>= λ p. pair_code lead p
+
+-- four digits, or those of a surrogate pair
+abbrev pub plain_code : Text → Option (ℕ × Text)
+plain_code t = code_unit t >>= λ p. if is_lead p.0 then trail_after p.0 p.1 else Some p
+
+-- one digit of sixteen more, of a number up to 10FFFF
+abbrev pub next_code : ℕ → ℕ → Option ℕ
+next_code code c = if is_digit c 16 && nat_le (code * 16 + digit_value c) 1114111 then Some (code * 16 + digit_value c) else None
+
+-- digits up to a brace, behind those that were read
+abbrev pub braced_after : ℕ → Text → Option (ℕ × Text)
+braced_after code [] = None
+braced_after code (c ∷ t) = if c == 125 then Some (code, t) else next_code code c >>= λ n. braced_after n t
+
+-- after `\u{`: at least one digit
+abbrev pub braced_code : Text → Option (ℕ × Text)
+braced_code t = if is_at 125 t then None else braced_after 0 t
+
+-- after `\u`
+abbrev pub code_point : Bool → Text → Option (ℕ × Text)
+code_point u t = if u && is_at 123 t then braced_code (drop 1 t) else plain_code t
+
+-- The second letters of general categories, by their first (UAX 44, table 12); of surrogates there is no text.
+abbrev pub seconds : ℕ → Text
+seconds a =
+    if a == 76 then codes "ultmoC"
+    else if a == 77 then codes "nce"
+    else if a == 78 then codes "dlo"
+    else if a == 80 then codes "cdseifo"
+    else if a == 83 then codes "mcko"
+    else if a == 90 then codes "slp"
+    else if a == 67 then codes "cfno"
+    else []
+
+-- after `\p{` and the first letter of a category
+abbrev pub category_after : Bool → ℕ → Text → Option Read
+category_after negated a [] = None
+category_after negated a (b ∷ t) =
+    if b == 125 then Some (Named (Category negated a), t)
+    else if is_one_of (seconds a) b && is_at 125 t then Some (Named (Subcategory negated a b), drop 1 t)
+    else None
+
+-- after `\p` or `\P`: a general category by its short name, in braces
+abbrev pub property : Bool → Text → Option Read
+property negated [] = None
+property negated (c ∷ []) = None
+property negated (c ∷ a ∷ t) = if c == 123 && is_one_of (codes "LMNPSZC") a then category_after negated a t else None
+
+abbrev pub longer_escape : Bool → ℕ → Text → Option Read
+longer_escape u c t =
+    if c == 48 then null t
+    else if c == 99 then coded (control t)
+    else if c == 120 then coded (hex_pair t)
+    else if c == 117 then coded (code_point u t)
+    else if u && c == 112 then property false t
+    else if u && c == 80 then property true t
+    else None
+
+abbrev pub escape_by : Bool → Option Atom → ℕ → Text → Option Read
+escape_by u (Some a) c t = Some (a, t)
+escape_by u None c t = longer_escape u c t
+
+-- IdentityEscape: in unicode mode SyntaxCharacter and `/`, else what is no letter or digit of ASCII (B.1.2)
+abbrev pub is_identity : Bool → ℕ → Bool
+is_identity u c = if u then is_one_of (codes "^$\\.*+?()[]{}|/") c else not (is_ascii_alphanumeric c)
 
 -- after a backslash
-abbrev pub escape : Text → Option (Atom × Text)
-escape [] = None
-escape (c ∷ t) =
-    if c == 100 then Some (Digit, t)
-    else if c == 119 then Some (Word, t)
-    else if is_ascii_punctuation c then Some (Character c, t)
-    else None
+abbrev pub escape : Bool → Text → Option Read
+escape u [] = None
+escape u (c ∷ t) = if is_identity u c then Some (Character c, t) else escape_by u (letter c) c t
 
 -- ---- classes
 
--- `-` between two atoms makes a range, but none before the end of the class
+-- ClassEscape (22.2.1): `\b` is a backspace
+abbrev pub class_escape : Bool → Text → Option Read
+class_escape u t =
+    if is_at 98 t then Some (Character 8, drop 1 t)
+    else if is_at 45 t then Some (Character 45, drop 1 t)
+    else escape u t
+
+abbrev pub class_atom : Bool → Text → Option Read
+class_atom u [] = None
+class_atom u (c ∷ t) = if c == 92 then class_escape u t else Some (Character c, t)
+
+-- `-` between two atoms joins them, but none before the end of the class
 abbrev pub is_range : Text → Bool
 is_range [] = false
 is_range (c ∷ t) = c == 45 && not (is_at 93 t)
 
-abbrev pub class_atom : Text → Option (Atom × Text)
-class_atom [] = None
-class_atom (c ∷ t) = if c == 92 then escape t else if is_ascii c then Some (Character c, t) else None
+-- The ends of a range are characters in order. Where one is a set, the hyphen is a character (CharacterRangeOrUnion, B.1.2).
+abbrev pub joined : Bool → Atom → Atom → Option Member
+joined u (Character a) (Character b) = if nat_le a b then Some (Range a b) else None
+joined u (Character a) (Named s) = if u then None else Some (Beside (Character a) (Named s))
+joined u (Named s) high = if u then None else Some (Beside (Named s) high)
 
--- the ends of a range are characters in order
-abbrev pub range : Atom → Atom → Option Member
-range (Character a) (Character b) = if nat_le a b then Some (Range a b) else None
-range _ _ = None
+abbrev pub joined_from : Bool → Atom → Text → Option (Member × Text)
+joined_from u low t = class_atom u t >>= λ p. option_map (λ m. (m, p.1)) (joined u low p.0)
 
-abbrev pub range_from : Atom → Text → Option (Member × Text)
-range_from low t = class_atom t >>= λ p. option_map (λ m. (m, p.1)) (range low p.0)
+abbrev pub member_after : Bool → Atom → Text → Option (Member × Text)
+member_after u low t = if is_range t then joined_from u low (drop 1 t) else Some (Single low, t)
 
-abbrev pub member_after : Atom → Text → Option (Member × Text)
-member_after low t = if is_range t then range_from low (drop 1 t) else Some (Single low, t)
-
-abbrev pub member : Text → Option (Member × Text)
-member t = class_atom t >>= λ p. member_after p.0 p.1
+abbrev pub member : Bool → Text → Option (Member × Text)
+member u t = class_atom u t >>= λ p. member_after u p.0 p.1
 
 abbrev pub member_bytes : Member → List ℕ
 member_bytes (Single a) = atom_bytes a
 member_bytes (Range a b) = verbatim a ++ 45 ∷ verbatim b
+member_bytes (Beside a b) = atom_bytes a ++ codes "\\-" ++ atom_bytes b
 
 -- the members up to the closing bracket, as they are written with it, and what follows; the number bounds how many there are
-unfoldable pub members : ℕ → Text → Option (List ℕ × Text)
-members zero t = None
-members (suc n) t =
+unfoldable pub members : Bool → ℕ → Text → Option (List ℕ × Text)
+members u zero t = None
+members u (suc n) t =
     if is_at 93 t then Some (93 ∷ [], drop 1 t)
-    else member t >>= λ p. option_map (λ q. (member_bytes p.0 ++ q.0, q.1)) (members n p.1)
+    else member u t >>= λ p. option_map (λ q. (member_bytes p.0 ++ q.0, q.1)) (members u n p.1)
 
 abbrev pub after_head : List ℕ → Option (List ℕ × Text) → Option (List ℕ × Text)
 after_head head found = option_map (λ q. (head ++ q.0, q.1)) found
 
--- after the opening bracket, where a class isn't empty
-abbrev pub members_of : Text → Option (List ℕ × Text)
-members_of t = if is_at 93 t then None else members (length t) t
+abbrev pub members_of : Bool → Text → Option (List ℕ × Text)
+members_of u t = members u (length t) t
 
-abbrev pub class : Text → Option (List ℕ × Text)
-class t = if is_at 94 t then after_head (codes "[^") (members_of (drop 1 t)) else after_head (codes "[") (members_of t)
+-- behind a head; without members the class is the other one
+abbrev pub class_after : Bool → List ℕ → List ℕ → Text → Option (List ℕ × Text)
+class_after u head other t = if is_at 93 t then Some (other, drop 1 t) else after_head head (members_of u t)
+
+-- after the opening bracket: `[]` takes no character, and `[^]` any
+abbrev pub class : Bool → Text → Option (List ℕ × Text)
+class u t =
+    if is_at 94 t then class_after u (codes "[^") (codes "[\\x{0}-\\x{10FFFF}]") (drop 1 t)
+    else class_after u (codes "[") (codes "[^\\x{0}-\\x{10FFFF}]") t
 
 -- ---- counts
 
@@ -102,66 +269,104 @@ class t = if is_at 94 t then after_head (codes "[^") (members_of (drop 1 t)) els
 abbrev pub digit_count : Text → ℕ
 digit_count t = position_or_len (λ c. not (is_ascii_digit c)) t
 
--- the number that digits write, or 2 ^ 32 - 1 where it is above
+-- the number that digits write, or 2 ^ 32 where it is above
 abbrev pub number_after : ℕ → Text → ℕ
 number_after n [] = n
-number_after n (d ∷ ds) = number_after (min (n * 10 + (d - 48)) 4294967295) ds
+number_after n (d ∷ ds) = number_after (min (n * 10 + (d - 48)) 4294967296) ds
 
 abbrev pub number : Text → ℕ
 number ds = number_after 0 ds
 
--- after `{n,`: a number that isn't less may stand before the brace; how long that is
-abbrev pub most_len : Text → Text → Option ℕ
-most_len least t =
-    if is_at 125 (drop (digit_count t) t) && (digit_count t == 0 || nat_le (number least) (number (take (digit_count t) t)))
-    then Some (digit_count t + 1)
-    else None
+-- after `{n,`: how long `}` or `m}` is
+abbrev pub most_len : Text → Option ℕ
+most_len t = if is_at 125 (drop (digit_count t) t) then Some (digit_count t + 1) else None
 
 -- after the brace, how long `n}`, `n,}` or `n,m}` is
 abbrev pub counts_len : Text → Option ℕ
 counts_len t =
     if digit_count t == 0 then None
     else if is_at 125 (drop (digit_count t) t) then Some (digit_count t + 1)
-    else if is_at 44 (drop (digit_count t) t)
-    then option_map (λ n. digit_count t + 1 + n) (most_len (take (digit_count t) t) (drop (digit_count t + 1) t))
+    else if is_at 44 (drop (digit_count t) t) then option_map (λ n. digit_count t + 1 + n) (most_len (drop (digit_count t + 1) t))
     else None
+
+-- a count is less than 2 ^ 32, as no search reads another
+abbrev pub is_count : Text → Bool
+is_count ds = nat_le (number ds) 4294967295
+
+-- there is no second number, or it is a count that isn't less
+abbrev pub is_most : Text → Text → Bool
+is_most least t = digit_count t == 0 || is_count (take (digit_count t) t) && nat_le (number least) (number (take (digit_count t) t))
+
+-- what stands behind the brace are counts in order (22.2.1.1)
+abbrev pub are_in_order : Text → Bool
+are_in_order t =
+    is_count (take (digit_count t) t) && (not (is_at 44 (drop (digit_count t) t)) || is_most (take (digit_count t) t) (drop (digit_count t + 1) t))
 
 -- ---- pieces
 
 -- the characters that are pieces alone
 abbrev pub sign : ℕ → Option Kind
 sign c =
-    if c == 40 then Some Opening
-    else if c == 41 then Some Closing
+    if c == 41 then Some Closing
     else if c == 124 then Some Bar
     else if is_one_of (codes "^$") c then Some Assertion
-    else if is_one_of (codes "*+?") c then Some Repetition
     else None
-
-abbrev pub atom : ℕ → Text → Option (Atom × Text)
-atom c t =
-    if c == 46 then Some (Dot, t)
-    else if c == 92 then escape t
-    else if is_one_of (codes "]}") c then None
-    else Some (Character c, t)
 
 -- a kind, what is written, and what follows
 abbrev pub Found : Type 0
 Found = Kind × List ℕ × Text
 
-abbrev pub longer_piece : ℕ → Text → Option Found
-longer_piece c t =
-    if c == 123 then option_map {U = Found} (λ n. (Repetition, 123 ∷ flat_map encode_utf8 (take n t), drop n t)) (counts_len t)
-    else if c == 91 then option_map {U = Found} (λ p. (Item, p.0, p.1)) (class t)
-    else option_map {U = Found} (λ p. (Item, atom_bytes p.0, p.1)) (atom c t)
+-- after `(`: of what may follow a `?`, `(?:` alone
+abbrev pub opening : Text → Option Found
+opening [] = Some (Opening, 40 ∷ [], [])
+opening (c ∷ t) =
+    if not (c == 63) then Some (Opening, 40 ∷ [], c ∷ t)
+    else if is_at 58 t then Some (Opening, codes "(?:", drop 1 t)
+    else None
 
-abbrev pub piece_by : Option Kind → ℕ → Text → Option Found
-piece_by (Some kind) c t = Some (kind, c ∷ [], t)
-piece_by None c t = longer_piece c t
+-- Quantifier (22.2.1): a `?` behind it says which match comes first, and not whether there is one
+abbrev pub lazy_sign : Text → List ℕ
+lazy_sign t = if is_at 63 t then 63 ∷ [] else []
+
+abbrev pub after_lazy : Text → Text
+after_lazy t = if is_at 63 t then drop 1 t else t
+
+abbrev pub repeated : List ℕ → Text → Option Found
+repeated written t = Some (Repetition, written ++ lazy_sign t, after_lazy t)
+
+-- after `{`: counts, or else the brace stands for itself (ExtendedPatternCharacter, B.1.2)
+abbrev pub braces_by : Bool → Option ℕ → Text → Option Found
+braces_by u None t = if u then None else Some (Item, verbatim 123, t)
+braces_by u (Some n) t = if are_in_order t then repeated (123 ∷ flat_map encode_utf8 (take n t)) (drop n t) else None
+
+-- Assertion (22.2.2.4): `\b` and `\B` look at characters of words of ASCII
+abbrev pub boundary : Text → Option (List ℕ)
+boundary [] = None
+boundary (c ∷ t) = if c == 98 then Some (codes "(?-u:\\b)") else if c == 66 then Some (codes "(?-u:\\B)") else None
+
+-- after a backslash
+abbrev pub escaped_by : Bool → Option (List ℕ) → Text → Option Found
+escaped_by u (Some written) t = Some (Assertion, written, drop 1 t)
+escaped_by u None t = option_map {U = Found} (λ p. (Item, atom_bytes p.0, p.1)) (escape u t)
+
+abbrev pub longer_piece : Bool → ℕ → Text → Option Found
+longer_piece u c t =
+    if c == 40 then opening t
+    else if c == 91 then option_map {U = Found} (λ p. (Item, p.0, p.1)) (class u t)
+    else if c == 123 then braces_by u (counts_len t) t
+    else if c == 92 then escaped_by u (boundary t) t
+    else if is_one_of (codes "*+?") c then repeated (c ∷ []) t
+    else if c == 46 then Some (Item, set_bytes Dot, t)
+    else if u && is_one_of (codes "]}") c then None
+    else Some (Item, verbatim c, t)
+
+abbrev pub piece_by : Bool → Option Kind → ℕ → Text → Option Found
+piece_by u (Some kind) c t = Some (kind, c ∷ [], t)
+piece_by u None c t = longer_piece u c t
 
 -- the piece that begins with the character, as it is written, and what follows
-unfoldable pub piece : ℕ → Text → Option Found
-piece c t = piece_by (sign c) c t
+unfoldable pub piece : Bool → ℕ → Text → Option Found
+piece u c t = piece_by u (sign c) c t
 
 -- the same, written behind what was written before
 abbrev pub behind : List ℕ → Option Found → Option Found
@@ -171,10 +376,10 @@ abbrev pub Piece : Type 0
 Piece = Kind × List ℕ
 
 -- the pieces of a text; the number bounds how many there are
-unfoldable pub pieces : ℕ → Text → Option (List Piece)
-pieces n [] = Some []
-pieces zero (c ∷ t) = None
-pieces (suc n) (c ∷ t) = piece c t >>= λ p. option_map (λ ps. (p.0, p.1) ∷ ps) (pieces n p.2)
+unfoldable pub pieces : Bool → ℕ → Text → Option (List Piece)
+pieces u n [] = Some []
+pieces u zero (c ∷ t) = None
+pieces u (suc n) (c ∷ t) = piece u c t >>= λ p. option_map (λ ps. (p.0, p.1) ∷ ps) (pieces u n p.2)
 
 -- ---- the order of pieces
 
@@ -196,14 +401,18 @@ in_order [] s = if s.depth == 0 then Some [] else None
 in_order (p ∷ ps) s = state_after s p.0 >>= λ after. option_map (λ w. p.1 ++ w) (in_order ps after)
 
 -- what the pieces of a text write, from a state on
-abbrev pub read_from : ℕ → Text → State → Option (List ℕ)
-read_from n t s = pieces n t >>= λ ps. in_order ps s
+abbrev pub read_from : Bool → ℕ → Text → State → Option (List ℕ)
+read_from u n t s = pieces u n t >>= λ ps. in_order ps s
 
 -- ---- the whole
 
--- a plain pattern's text as `regex` is to read it; nothing for another
+abbrev pub read_in : Bool → Text → Option (List ℕ)
+read_in u t = read_from u (length t) t start
+
+-- A plain pattern's text as `regex` is to read it; nothing for another. What is read outside of unicode mode and in it means
+-- the same in both.
 unfoldable pub rewritten : List ℕ → Option (List ℕ)
-rewritten pattern = read_from (length (chars pattern)) (chars pattern) start
+rewritten pattern = option_or (read_in false (chars pattern)) (read_in true (chars pattern))
 
 abbrev pub is_plain : List ℕ → Bool
 is_plain pattern = is_some (rewritten pattern)

@@ -3,23 +3,38 @@ ghost use Rattle.std.specs.Prelude.{◌≡◌, ◌++◌, OnOk, string_bytes};
 
 use std::alloc::AllocError;
 
-/// A set of characters: one, what `.` stands for, the decimal digits, or the characters of words.
+/// A set of characters that a pattern names: by `.`, by a backslash and a letter, or by `\p` and a general category.
+#[derive(Clone, Copy)]
+pub enum Set {
+    Dot,
+    Digit,
+    NoDigit,
+    Space,
+    NoSpace,
+    Word,
+    NoWord,
+    /// A general category of Unicode by its letter, or where the flag is set all else.
+    Category(bool, char),
+    /// One by two letters.
+    Subcategory(bool, char, char),
+}
+
+/// One character, or a set that has a name.
 #[derive(Clone, Copy)]
 pub enum Atom {
     Character(char),
-    Dot,
-    Digit,
-    Word,
+    Named(Set),
 }
 
-/// What stands in a class: an atom, or the characters between two, both included.
+/// What stands in a class: an atom, the characters between two, both included, or two atoms and the hyphen between them.
 #[derive(Clone, Copy)]
 pub enum Member {
     Single(Atom),
     Range(char, char),
+    Beside(Atom, Atom),
 }
 
-ghost use Rattle.plain_patterns.specs.Plain.{atom_bytes, member_bytes, verbatim};
+ghost use Rattle.plain_patterns.specs.Plain.{atom_bytes, member_bytes, property_sign, set_bytes, verbatim};
 
 /// Writes a character that stands for itself.
 pub fn write_character(out: &mut String, character: char) -> Result<(), AllocError>
@@ -34,15 +49,56 @@ pub fn write_character(out: &mut String, character: char) -> Result<(), AllocErr
     Ok(())
 }
 
+/// Writes what a general category stands behind.
+fn write_property(out: &mut String, negated: bool) -> Result<(), AllocError>
+    ensures { OnOk result (string_bytes out.new ≡ string_bytes out.old ++ property_sign negated) }
+{
+    if negated {
+        out.push_str(r"\P{gc=")?;
+        return Ok(());
+    }
+    out.push_str(r"\p{gc=")?;
+    Ok(())
+}
+
+/// Writes a set.
+pub fn write_set(out: &mut String, set: Set) -> Result<(), AllocError>
+    ensures { OnOk result (string_bytes out.new ≡ string_bytes out.old ++ set_bytes set) }
+{
+    match set {
+        Set::Dot => out.push_str(r"[^\n\r\x{2028}\x{2029}]")?,
+        Set::Digit => out.push_str("[0-9]")?,
+        Set::NoDigit => out.push_str("[^0-9]")?,
+        Set::Space => out.push_str(
+            r"[\t-\r \x{A0}\x{1680}\x{2000}-\x{200A}\x{2028}\x{2029}\x{202F}\x{205F}\x{3000}\x{FEFF}]",
+        )?,
+        Set::NoSpace => out.push_str(
+            r"[^\t-\r \x{A0}\x{1680}\x{2000}-\x{200A}\x{2028}\x{2029}\x{202F}\x{205F}\x{3000}\x{FEFF}]",
+        )?,
+        Set::Word => out.push_str("[0-9A-Za-z_]")?,
+        Set::NoWord => out.push_str("[^0-9A-Za-z_]")?,
+        Set::Category(negated, first) => {
+            write_property(out, negated)?;
+            out.push(first)?;
+            out.push('}')?;
+        }
+        Set::Subcategory(negated, first, second) => {
+            write_property(out, negated)?;
+            out.push(first)?;
+            out.push(second)?;
+            out.push('}')?;
+        }
+    }
+    Ok(())
+}
+
 /// Writes an atom.
 pub fn write_atom(out: &mut String, atom: Atom) -> Result<(), AllocError>
     ensures { OnOk result (string_bytes out.new ≡ string_bytes out.old ++ atom_bytes atom) }
 {
     match atom {
         Atom::Character(character) => write_character(out, character)?,
-        Atom::Dot => out.push_str(r"[^\n\r\x{2028}\x{2029}]")?,
-        Atom::Digit => out.push_str("[0-9]")?,
-        Atom::Word => out.push_str("[0-9A-Za-z_]")?,
+        Atom::Named(set) => write_set(out, set)?,
     }
     Ok(())
 }
@@ -57,6 +113,11 @@ pub fn write_member(out: &mut String, member: Member) -> Result<(), AllocError>
             write_character(out, low)?;
             out.push('-')?;
             write_character(out, high)?;
+        }
+        Member::Beside(low, high) => {
+            write_atom(out, low)?;
+            out.push_str(r"\-")?;
+            write_atom(out, high)?;
         }
     }
     Ok(())

@@ -11,7 +11,11 @@ pub record SearchExamples : Type 0 where
   pub once : matches (codes "a{2}") (codes "a") ≡ false
   pub some : matches (codes "ab*c") (codes "abbc") ≡ true
   pub punctuation : matches (codes "\\.") (codes "a") ≡ false
-  pub lazy : matches (codes "a+?") (codes "a") ≡ false
+  pub lazy : matches (codes "a+?") (codes "ba") ≡ true
+  pub no_capture : matches (codes "(?:a|b)c") (codes "bc") ≡ true
+  pub brace : matches (codes "a{,2}") (codes "aa") ≡ false
+  pub code : matches (codes "\\x41") (codes "bA") ≡ true
+  pub repeated_twice : matches (codes "a**") (codes "a") ≡ false
 
 pub record EndExamples : Type 0 where
   pub whole : matches (codes "^ab$") (codes "ab") ≡ true

@@ -1,23 +1,9 @@
--- Parts of a text at fixed places, and texts that are too short for a form.
-use Rattle.std.proofs.Common.{◌≡◌, ℕ, ◌+◌, ◌<◌, ◌≤◌, ◌&&◌, List, [], ◌∷◌, Bool, true, false, length, take, drop, bytes_eq, nat_eq, nat_le, codes, refl, ap, sym, ◌∙◌, arith}
+-- Parts of a date-time at fixed places, and texts that are too short for one.
+use Rattle.std.proofs.Common.{◌≡◌, ℕ, ◌+◌, ◌<◌, ◌&&◌, List, [], ◌∷◌, Bool, true, false, length, take, drop, bytes_eq, nat_eq, nat_le, refl, ap, sym, ◌∙◌, arith}
 use Rattle.std.proofs.lemmas.List.{drop-drop, drop_all}
 use Rattle.std.specs.List.{starts_with}
-use Rattle.std.specs.Str.{str_eq_ignore_ascii_case}
-use Rattle.schema_defs.specs.Formats.{is_braced, is_urn, is_hyphenated, is_date, is_date_time, are_clock_parts, pieces, is_fraction_and_zone, is_zone, leading_digits}
+use Rattle.schema_defs.specs.Formats.{is_date, is_date_time, are_clock_parts, pieces, is_fraction_and_zone, is_zone, leading_digits}
 use Rattle.schema_texts.proofs.Bools.{and_false}
-
-pub after_brace : (s : List ℕ) → drop 36 (drop 1 s) ≡ drop 37 s
-after_brace s = drop-drop 36 1 s
-
-pub braced_short : (s : List ℕ) → length s < 37 → is_braced s ≡ false
-braced_short s h =
-    let past : drop 37 s ≡ [] = drop_all 37 s (omega arith) in
-    rw (past, and_false (starts_with nat_eq s (123 ∷ []))) refl
-
-pub urn_short : (s : List ℕ) → length s < 9 → is_urn s ≡ false
-urn_short s h =
-    let past : drop 9 s ≡ [] = drop_all 9 s (omega arith) in
-    rw past (and_false (str_eq_ignore_ascii_case (take 9 s) (codes "urn:uuid:")))
 
 -- a date-time by its parts
 pub date_time_parts : (s : List ℕ) → is_date_time s

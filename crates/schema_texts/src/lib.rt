@@ -1,5 +1,5 @@
 //! Judges of texts, by patterns and by formats: what a judge is, a plain one over a table of patterns, and one that fails
-//! at given calls. The formats are read as their definitions say.
+//! at given calls. The formats are read as their definitions say, and identifiers are parsed by crate `uuid`.
 #![tactic(auto)]
 
 mod address;
@@ -7,7 +7,6 @@ mod calendar;
 pub mod examples;
 mod failing;
 mod format;
-mod identifier;
 mod judge;
 mod keywords;
 mod pieces;

@@ -3,7 +3,7 @@ ghost use Rattle.std.specs.Prelude.{◌≡◌, ◌+◌, ◌-◌, ◌^◌, ◌<�
 ghost use Rattle.std.specs.List.{list_all, position};
 ghost use Rattle.std.specs.Char.{is_ascii_digit, is_ascii_hexdigit};
 ghost use Rattle.schema_texts.specs.Several.{HasSeveral};
-ghost use Rattle.schema_defs.specs.Formats.{pieces, all_digits, all_hex, digits_to, leading_digits, number_of};
+ghost use Rattle.schema_defs.specs.Formats.{pieces, all_digits, digits_to, leading_digits, number_of};
 
 /// The text before the first separator, and the text after it, where there is one.
 pub(crate) fn cut(text: &[u8], separator: u8) -> Option<(&[u8], &[u8])>
@@ -31,13 +31,6 @@ fn first_place(text: &[u8], byte: u8) -> Option<usize>
     ensures within { IfSome result (λ i. i < length text.now) }
 {
     text.iter().position(|b| *b == byte)
-}
-
-/// Whether the text is that many digits of sixteen.
-pub(crate) fn is_hex(text: &[u8], count: usize) -> bool
-    ensures { result ≡ all_hex count text.now }
-{
-    text.len() == count && are_hex(text)
 }
 
 /// Whether each byte is a digit of sixteen.

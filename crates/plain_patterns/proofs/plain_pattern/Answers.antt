@@ -1,13 +1,15 @@
-use Rattle.std.proofs.Common.{◌∙◌}
-use Rattle.plain_patterns.proofs.Scanned.{other_whole, plain_whole}
+use Rattle.std.proofs.Common.{◌≡◌, ◌∙◌, subst, IfOk, option_map, string_bytes}
+use Rattle.plain_patterns.proofs.Scanned.{first_mode, second_mode}
 use Rattle.plain_patterns.proofs.plain_pattern.Goals as goal
 
-pub returns-then-branch : goal.returns-then-branch
-returns-then-branch c = record {
-  rewritten = plain_whole _ _ _ _ _ (c.as_slice.ensures.value ∙ c.in_ok-characters.ensures) c.new-written.ensures.bytes c.in_ok-write_pieces.ensures c.if-branch.true;
+pub returns-in-Some : goal.returns-in-Some
+returns-in-Some c = record {
+  rewritten = first_mode _ _ _ (c.as_slice.ensures.value ∙ c.in_ok-characters.ensures) (rw c.in-Some.is at c.in_ok-written.ensures);
 }
 
 pub returns : goal.returns
 returns c = record {
-  rewritten = other_whole _ _ _ _ _ (c.as_slice.ensures.value ∙ c.in_ok-characters.ensures) c.new-written.ensures.bytes c.in_ok-write_pieces.ensures c.if-branch.false;
+  rewritten = subst (λ t. IfOk c.written_in-in-None.result (λ o. option_map string_bytes o ≡ t))
+      (second_mode _ _ _ (c.as_slice.ensures.value ∙ c.in_ok-characters.ensures) (rw c.in-None.is at c.in_ok-written.ensures)
+      (c.as_slice-in-None.ensures.value ∙ c.in_ok-characters.ensures)) c.written_in-in-None.ensures;
 }

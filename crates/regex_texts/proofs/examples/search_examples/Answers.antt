@@ -21,4 +21,8 @@ returns c = record {
   some = refl;
   punctuation = refl;
   lazy = refl;
+  no_capture = refl;
+  brace = refl;
+  code = refl;
+  repeated_twice = refl;
 }
