@@ -1,6 +1,8 @@
 pub mod ReadItems
 pub mod FirstOutside
 pub mod Modelled
+pub mod Named
+pub mod Asked
 pub mod Whys
 pub mod Inside
 pub mod Judged

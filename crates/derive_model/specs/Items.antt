@@ -3,6 +3,7 @@ use Rattle.std.specs.Prelude.{ℕ, suc, ◌++◌, List, [], ◌∷◌, map, Bool
 use Rattle.std.specs.List.{flat_map}
 use Rattle.token_trees.specs.Token.{Name, site}
 use Rattle.syntax_trees.specs.Item.{ItemD}
+use Rattle.attr_parts.specs.declared.derive.Derive.{Derive}
 use Rattle.attr_parts.specs.declared.derive.Derive.TheVariants.{Serialize, Deserialize}
 use Rattle.attr_parts.specs.Diagnostics.{DiagnosticD}
 use Rattle.attr_defs.specs.Renames.{Meaning}
@@ -22,8 +23,11 @@ first_from test i [] = None
 first_from test i (a ∷ xs) = if test a then Some i else first_from test (suc i) xs
 
 module _ (variant_name field_name : Meaning) where
+  abbrev pub container_of : Derive → ItemD → Option ReadContainer
+  container_of derive i = model_of lexed variant_name field_name private i derive
+
   abbrev pub read_of : ItemD → Option ReadContainer
-  read_of i = model_of lexed variant_name field_name private i Deserialize
+  read_of i = container_of Deserialize i
 
   -- Serialize before Deserialize
   abbrev pub told_of : ItemD → List DiagnosticD

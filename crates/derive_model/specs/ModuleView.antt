@@ -1,10 +1,14 @@
 -- The models that a module holds, and why there is none.
 use Rattle.std.specs.Prelude.{◌≡◌, ℕ, List, [], map, Option, Some}
 use Rattle.syntax_trees.specs.Item.{ItemD, item_view}
+use Rattle.attr_parts.specs.declared.derive.Derive.{Derive}
+use Rattle.attr_parts.specs.declared.derive.Derive.TheVariants.{Serialize, Deserialize}
 use Rattle.attr_parts.specs.Diagnostics.{DiagnosticD, diagnostic_view}
 use Rattle.attr_defs.specs.Renames.{Meaning}
 use Rattle.model_defs.specs.Model.{ContainerModel, ConversionsD}
 use Rattle.conversion_table.specs.Conversions.{conversions_view}
+use Rattle.container_defs.specs.Container.{ReadContainer}
+use Rattle.derive_ast.specs.Views.{container_view}
 use Rattle.value_models.specs.ContainersView.{containers_in}
 use Rattle.derive_model.specs.Items.{all_told, first_outside}
 use Rattle.derive_model.specs.declared.module.Module.{Module}
@@ -12,7 +16,12 @@ use Rattle.derive_model.specs.declared.errors.ModuleError.{ModuleError}
 use Rattle.derive_model.specs.declared.errors.ModuleError.TheVariants.{Memory, Diagnostics, Form}
 
 abbrev pub models_in : Module → List ContainerModel
-models_in m = containers_in m.containers
+models_in m = containers_in m.table.containers
+
+-- the containers that were read for a derive
+abbrev pub containers_read : Module → Derive → List ReadContainer
+containers_read m Serialize = map container_view m.written.items
+containers_read m Deserialize = map container_view m.read.items
 
 -- the items that it was made of
 abbrev pub items_in : Module → List ItemD

@@ -41,7 +41,7 @@ impl<'a> Module<'a> {
             Err(_) => Err(TextFault::Memory),
             Ok(ty) => value_reading::read(
                 self.alloc,
-                &self.containers,
+                &self.table.containers,
                 self.conversions,
                 texts,
                 &ty,
@@ -74,7 +74,7 @@ impl<'a> Module<'a> {
         ensures { IfOk result (λ v. kept_view v ≡ written (models_in self.now) (type_of (ty_view ty.now)) (typed_view typed.now)) }
     {
         let ty = value_type(self.alloc, ty)?;
-        let value = value_writing::write(self.alloc, &self.containers, typed, &ty)?;
+        let value = value_writing::write(self.alloc, &self.table.containers, typed, &ty)?;
         Ok(value)
     }
 

@@ -5,6 +5,7 @@
 mod asking;
 mod errors;
 mod judging;
+mod kinds;
 pub mod laws;
 mod making;
 mod models;
@@ -16,4 +17,5 @@ mod verdict;
 
 pub use errors::{JudgeError, ModuleError, ReadError};
 pub use module::Module;
+pub use value_kinds::TypeKinds;
 pub use verdict::Verdict;

@@ -1,6 +1,5 @@
 //! The models of containers.
-ghost use Rattle.std.specs.Prelude.{◌≡◌, ◌++◌, [], map, option_map, IfOk, OnOk};
-ghost use Rattle.std.specs.List.{filter_map, cons_option};
+ghost use Rattle.std.specs.Prelude.{◌≡◌, map, IfOk};
 ghost use Rattle.container_defs.specs.Reader.{reader_model};
 ghost use Rattle.derive_ast.specs.Views.{container_view};
 ghost use Rattle.value_models.specs.ContainerView.{containers_view};
@@ -9,49 +8,30 @@ ghost use Rattle.value_models.specs.ContainersView.{containers_in};
 use derive_ast::Container;
 use item_models::model_of_container;
 use std::alloc::{AllocError, Global};
+use value_kinds::ModelTable;
 use value_models::Containers;
-
-// The model of one that was read is put behind the others.
-#[tactic(auto, using(crate::proofs::Modelled::one_pushed, crate::proofs::Modelled::none_pushed))]
-fn push_model(
-    alloc: Global,
-    models: &mut Vec<value_models::Container>,
-    container: &Option<Container<'_>>,
-) -> Result<(), AllocError>
-    ensures { OnOk result (containers_view models.new.items ≡ containers_view models.old.items ++ cons_option (option_map reader_model (option_map container_view container.now)) []) }
-{
-    match container {
-        Some(container) => {
-            let model = model_of_container(alloc, container)?;
-            models.push(model)?;
-            Ok(())
-        }
-        None => Ok(()),
-    }
-}
 
 #[tactic(auto, using(crate::proofs::Modelled::modelled_on, crate::proofs::Modelled::all_modelled))]
 fn models_of(
     alloc: Global,
-    read: &[Option<Container<'_>>],
+    read: &[Container<'_>],
 ) -> Result<Vec<value_models::Container>, AllocError>
-    ensures { IfOk result (λ v. containers_view v.items ≡ filter_map (option_map reader_model) (map (option_map container_view) read.now)) }
+    ensures { IfOk result (λ v. containers_view v.items ≡ map reader_model (map container_view read.now)) }
 {
     let mut models = Vec::new(alloc);
     for container in read {
-        push_model(alloc, &mut models, container)?;
+        let model = model_of_container(alloc, container)?;
+        models.push(model)?;
     }
     Ok(models)
 }
 
-/// The models of containers, with the table of their names.
-pub(crate) fn containers_of(
-    alloc: Global,
-    read: &[Option<Container<'_>>],
-) -> Result<Containers, AllocError>
-    ensures { IfOk result (λ m. containers_in m ≡ filter_map (option_map reader_model) (map (option_map container_view) read.now)) }
+/// The models of containers, with the table of their names and what they ask of one value.
+pub(crate) fn table_of(alloc: Global, read: &[Container<'_>]) -> Result<ModelTable, AllocError>
+    ensures { IfOk result (λ t. containers_in t.containers ≡ map reader_model (map container_view read.now)) }
 {
     let models = models_of(alloc, read)?;
     let containers = Containers::new(alloc, models)?;
-    Ok(containers)
+    let table = ModelTable::new(alloc, containers)?;
+    Ok(table)
 }

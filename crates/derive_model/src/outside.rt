@@ -1,8 +1,8 @@
 //! The first item outside the forms.
-ghost use Rattle.std.specs.Prelude.{◌≡◌, map, option_map, IfOk};
+ghost use Rattle.std.specs.Prelude.{◌≡◌, map, IfOk};
 ghost use Rattle.syntax_trees.specs.Item.{item_view};
 ghost use Rattle.conversion_table.specs.Conversions.{conversions_view};
-ghost use Rattle.container_defs.specs.Forms.{names_of, leaves_forms};
+ghost use Rattle.container_defs.specs.Forms.{names_of, is_outside};
 ghost use Rattle.derive_ast.specs.Views.{container_view};
 ghost use Rattle.derive_model.specs.Items.{first_from};
 
@@ -11,23 +11,6 @@ use derive_ast::Container;
 use item_causes::is_outside;
 use item_names::ItemNames;
 use std::alloc::{AllocError, Global};
-
-fn leaves_forms(
-    alloc: Global,
-    names: &ItemNames<'_>,
-    conversions: &Conversions,
-    read: &Option<Container<'_>>,
-) -> Result<bool, AllocError>
-    ensures { IfOk result (λ r. r ≡ leaves_forms (names_of (map item_view names.now.items.now)) (conversions_view conversions.now) (option_map container_view read.now)) }
-{
-    match read {
-        Some(container) => {
-            let outside = is_outside(alloc, names, conversions, container)?;
-            Ok(outside)
-        }
-        None => Ok(true),
-    }
-}
 
 // A place as an error tells it, which has a u32: there is no memory for more items.
 fn told_place(place: usize) -> Result<u32, AllocError>
@@ -39,18 +22,18 @@ fn told_place(place: usize) -> Result<u32, AllocError>
     }
 }
 
-/// The first item outside the forms, or the union that was not read.
+/// The first item outside the forms.
 #[tactic(auto, using(crate::proofs::FirstOutside::next_place, crate::proofs::FirstOutside::this_place, crate::proofs::FirstOutside::no_place))]
 pub(crate) fn first_outside(
     alloc: Global,
     names: &ItemNames<'_>,
     conversions: &Conversions,
-    read: &[Option<Container<'_>>],
+    read: &[Container<'_>],
 ) -> Result<Option<u32>, AllocError>
-    ensures { IfOk result (λ o. o ≡ first_from (leaves_forms (names_of (map item_view names.now.items.now)) (conversions_view conversions.now)) 0 (map (option_map container_view) read.now)) }
+    ensures { IfOk result (λ o. o ≡ first_from (is_outside (names_of (map item_view names.now.items.now)) (conversions_view conversions.now)) 0 (map container_view read.now)) }
 {
     for place in 0..read.len() {
-        if leaves_forms(alloc, names, conversions, &read[place])? {
+        if is_outside(alloc, names, conversions, &read[place])? {
             let told = told_place(place)?;
             return Ok(Some(told));
         }

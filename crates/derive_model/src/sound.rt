@@ -44,7 +44,7 @@ impl<'a> Module<'a> {
             FieldDefault::Stated(place) => {
                 let sound = reads_default(
                     self.alloc,
-                    &self.containers,
+                    &self.table.containers,
                     self.conversions,
                     texts,
                     place,
@@ -131,7 +131,7 @@ impl<'a> Module<'a> {
         ensures keeps { T.relations texts.new ≡ T.relations texts.old }
         ensures counts { T.faults texts.old ≤ T.faults texts.new }
     {
-        let sound = self.containers_are_sound(texts, self.containers.containers())?;
+        let sound = self.containers_are_sound(texts, self.table.containers.containers())?;
         Ok(sound)
     }
 

@@ -1,16 +1,20 @@
 -- The graph of what is asked has no loop exactly where no item reaches itself at one value.
-use Rattle.std.proofs.Common.{◌≡◌, ◌↔◌, ℕ, zero, suc, ◌<◌, ◌≤◌, List, [], ◌∷◌, map, length, Bool, true, false, ◌||◌, cond, Option, Some, None, is_some, slice_get, slice_index_or, Contains, refl, sym, ap, subst, ◌∙◌, true≢false, ⊎_elim, bytes_eq, arith}
-use Rattle.std.specs.List.{list_any, cons_option}
+use Rattle.std.proofs.Common.{◌≡◌, ◌↔◌, ℕ, zero, suc, ◌≤◌, List, [], ◌∷◌, map, Bool, true, false, ◌||◌, cond, Option, Some, None, is_some, slice_get, Contains, option_map, slice_index, refl, sym, ap, subst, ◌∙◌, true≢false, ⊎_elim, bytes_eq, arith}
+use Rattle.std.specs.List.{cons_option}
+use Rattle.std.specs.Prelude.{IfSome, Vec}
+use Rattle.std.specs.declared.alloc.Global.{Global}
 use Rattle.std.proofs.lemmas.Slice.Eq.{bytes_eq-Decides}
 use Rattle.schema_defs.proofs.Stand.{none_in, first_or_rest, first_in, rest_in}
 use Rattle.name_tables.specs.Names.{Names, place_of}
-use Rattle.reference_graph.specs.Graph.{Graph, row_of, Refers, Leads, one_step, more_steps, IsAcyclic}
+use Rattle.reference_graph.specs.Graph.{Graph, row_of, Refers, Leads, one_step, more_steps, IsAcyclic, IsLoop, StartsLeast}
+use Rattle.reference_graph.proofs.Routes.{goes_leads}
 use Rattle.model_defs.specs.Model.{ContainerModel, container_named}
 use Rattle.model_defs.specs.Reach.{asked_by, is_among, Asks, Reaches, at_once, further, NoneReachesItself}
 use Rattle.model_defs.proofs.Flat.{bytes_itself}
 use Rattle.value_models.specs.Names.{container_names, at_place}
 use Rattle.value_models.proofs.Found.{containers_are_found}
 use Rattle.value_kinds.specs.Rounds.{places_of, asked_places, asked_graph}
+use Rattle.value_kinds.specs.Reaching.{IsFirstReaching, IsFirstLooping}
 
 -- ---- names and their places
 
@@ -125,15 +129,19 @@ module _ (ms : List ContainerModel) where
   starts _ _ (at_once m n a) = placed m n a
   starts _ _ (further m n l a r) = placed m n a
 
-  none_reach : IsAcyclic graph → NoneReachesItself ms
-  none_reach free n r =
-      let here = starts n n r in
-      let way = reaching_leads n n here.0 here.1 r in
-      let same : way.0 ≡ here.0 = some_is_one way.0 here.0 (sym way.1 ∙ here.1) in
-      free here.0 (subst (λ i. Leads graph i here.0) same way.2)
+  reaches_round : (n : List ℕ) (i : ℕ) → place_of n names ≡ Some i → Reaches ms n n → Leads graph i i
+  reaches_round n i e r =
+      let way = reaching_leads n n i e r in
+      let same : way.0 ≡ i = some_is_one way.0 i (sym way.1 ∙ e) in
+      subst (λ k. Leads graph k i) same way.2
     where
       some_is_one : (i j : ℕ) → Some i ≡ Some j → i ≡ j
       some_is_one i j h = cc
+
+  none_reach : IsAcyclic graph → NoneReachesItself ms
+  none_reach free n r =
+      let here = starts n n r in
+      free here.0 (reaches_round n here.0 here.1 r)
 
   -- and back
 
@@ -162,16 +170,32 @@ module _ (ms : List ContainerModel) where
       let rest = leading_reaches there.0 j k there.2 l in
       (rest.0, rest.1, further m there.0 rest.0 there.1 rest.2)
 
+  round_reaches : (n : List ℕ) (i : ℕ) → place_of n names ≡ Some i → Leads graph i i → Reaches ms n n
+  round_reaches n i e l =
+      let round = leading_reaches n i i e l in
+      let same : round.0 ≡ n = one_name round.0 n ms 0 i round.1 e in
+      subst (λ m. Reaches ms n m) same round.2
+
   no_loop : NoneReachesItself ms → IsAcyclic graph
   no_loop none i l =
       let here = named_end i i l in
-      let round = leading_reaches here.0 i i here.1 l in
-      let same : round.0 ≡ here.0 = one_name round.0 here.0 ms 0 i round.1 here.1 in
-      none here.0 (subst (λ n. Reaches ms here.0 n) same round.2)
+      none here.0 (round_reaches here.0 i here.1 l)
 
   pub reaching_is_leading : (b : Bool) (rows : Graph) → rows ≡ graph → ((b ≡ false) ↔ IsAcyclic rows) → ((b ≡ false) ↔ NoneReachesItself ms)
   reaching_is_leading b rows e h =
       (λ q. none_reach (subst IsAcyclic e (h.0 q)), λ none. h.1 (subst IsAcyclic (sym e) (no_loop none)))
+
+  -- the first node that leads back to itself is the first item that reaches itself
+  pub first_reaches : (rows : Graph) (found : Option ℕ) → rows ≡ graph → IsFirstLooping rows found → IsFirstReaching ms found
+  first_reaches rows found e h = by found (subst (λ g. IsFirstLooping g found) e h)
+    where
+      by : (o : Option ℕ) → IsFirstLooping graph o → IsFirstReaching ms o
+      by None h = record { none = λ q. none_reach (h.none q); first = tt; least = tt }
+      by (Some i) h = record {
+        none = λ q. none_reach (h.none q);
+        first = λ n e. round_reaches n i e h.first;
+        least = λ n j e l r. h.least j l (reaches_round n j e r);
+      }
 
 -- ---- whether there is a loop
 
@@ -181,3 +205,17 @@ some_is_none a e = cc
 pub some_or_none : {A : Type 0} (o : Option A) (P : Type 0) → ((o ≡ None) ↔ P) → ((is_some o ≡ false) ↔ P)
 some_or_none None P h = (λ e. h.0 refl, λ p. refl)
 some_or_none (Some a) P h = (λ e. absurd (true≢false e), λ p. absurd (some_is_none a (h.1 p)))
+
+-- the way round that is found begins at the least node on one
+pub first_of_loop : (g : Graph) (found : Option (Vec ℕ Global)) (o : Option ℕ) → ((found ≡ None) ↔ IsAcyclic g) → IfSome found (λ path. IsLoop g path.items) → IfSome found (λ path. StartsLeast g path.items)
+    → o ≡ option_map (λ path. slice_index path.items 0) found → IsFirstLooping g o
+first_of_loop g found o n p l e = subst (IsFirstLooping g) (sym e) (by found n p l)
+  where
+    by : (f : Option (Vec ℕ Global)) → ((f ≡ None) ↔ IsAcyclic g) → IfSome f (λ path. IsLoop g path.items) → IfSome f (λ path. StartsLeast g path.items)
+        → IsFirstLooping g (option_map (λ path. slice_index path.items 0) f)
+    by None n p l = record { none = λ q. n.0 refl; first = tt; least = tt }
+    by (Some path) n p l = begins path.items p l
+      where
+        begins : (is : List ℕ) → IsLoop g is → StartsLeast g is → IsFirstLooping g (Some (slice_index is 0))
+        begins [] p l = absurd p
+        begins (i ∷ is) p l = record { none = λ q. absurd (some_is_none i q); first = goes_leads g i i is p; least = l }

@@ -1,12 +1,12 @@
 -- One more turn of each loop, and its end.
-use Rattle.std.proofs.Common.{◌≡◌, ℕ, suc, ◌+◌, ◌<◌, ◌≤◌, List, [], ◌∷◌, ◌++◌, map, drop, drop-cons, length, get_or, Bool, true, false, ◌&&◌, ◌||◌, not, Option, Some, None, refl, sym, ap, subst, ◌∙◌, append_assoc, arith}
+use Rattle.std.proofs.Common.{◌≡◌, ℕ, suc, ◌+◌, ◌<◌, ◌≤◌, List, [], ◌∷◌, ◌++◌, map, drop, drop-cons, length, get_or, Bool, true, false, ◌&&◌, ◌||◌, not, Option, Some, None, refl, sym, ap, ◌∙◌, append_assoc, arith}
 use Rattle.std.specs.Prelude.{Vec}
 use Rattle.std.specs.List.{list_any, cons_option}
 use Rattle.std.specs.declared.alloc.Global.{Global}
 use Rattle.std.proofs.lemmas.List.{drop_all, append-nil, map-append}
 use Rattle.name_tables.specs.Names.{Names, place_of}
 use Rattle.reference_graph.specs.Graph.{graph_of}
-use Rattle.model_defs.specs.Model.{VariantModel, external_tag, untagged, ContainerModel}
+use Rattle.model_defs.specs.Model.{external_tag, untagged}
 use Rattle.model_defs.specs.Layer.{is_unit, variant_content}
 use Rattle.model_defs.specs.Reach.{asked_by_content, asked_by_variants}
 use Rattle.value_models.specs.VariantView.{variant_view, variants_view}

@@ -1,5 +1,5 @@
 -- What is found of three items: a newtype of an optional struct, that struct, and an untagged enum that holds itself.
-use Rattle.std.specs.Prelude.{◌≡◌, ℕ, List, [], ◌∷◌, ◌||◌, map, codes}
+use Rattle.std.specs.Prelude.{◌≡◌, List, [], ◌∷◌, ◌||◌, map, codes}
 use Rattle.model_defs.specs.Types.{text_type, option_type, boxed_type, item_type}
 use Rattle.model_defs.specs.Model.{newtype_style, untagged, ContainerModel}
 use Rattle.model_defs.specs.Examples.{a, b, field, unnamed, item, closed, alias, called, struct, enum, variant, u}

@@ -1,5 +1,5 @@
 -- The kinds that items read, found in rounds; and which item hands a value on to which.
-use Rattle.std.specs.Prelude.{◌≡◌, ℕ, zero, suc, ◌||◌, List, [], ◌∷◌, map, length, false, Option, Some, None, slice_index_or, filter_map}
+use Rattle.std.specs.Prelude.{◌≡◌, ℕ, zero, suc, ◌||◌, List, [], ◌∷◌, map, false, Option, Some, None, slice_index_or, filter_map}
 use Rattle.std.specs.List.{list_any}
 use Rattle.name_tables.specs.Names.{Names, place_of}
 use Rattle.reference_graph.specs.Graph.{Graph}

@@ -1,5 +1,5 @@
 //! Containers with what they ask of one value.
-ghost use Rattle.std.specs.Prelude.{◌≡◌, ◌↔◌, [], Bool, false, map, IfOk};
+ghost use Rattle.std.specs.Prelude.{◌≡◌, ◌↔◌, [], Bool, false, map, option_map, IfOk, slice_index};
 ghost use Rattle.name_tables.specs.Names.{all_entered};
 ghost use Rattle.model_defs.specs.Layer.{variant_content};
 ghost use Rattle.model_defs.specs.Reach.{NoneReachesItself};
@@ -13,6 +13,7 @@ ghost use Rattle.value_models.specs.VariantView.{variant_view};
 ghost use Rattle.writing_laws.specs.Kinds.{content_may_read, may_read, may_within};
 ghost use Rattle.value_kinds.specs.Claims.{claim_view};
 ghost use Rattle.value_kinds.specs.Kinds.{kinds_where};
+ghost use Rattle.value_kinds.specs.Reaching.{IsFirstLooping, IsFirstReaching};
 ghost use Rattle.value_kinds.specs.Rounds.{AreKinds, asked_graph, claimed_kinds};
 
 use crate::asked::{graph_of, names_of};
@@ -58,6 +59,30 @@ fn has_loop(alloc: Global, rows: &[Vec<usize>]) -> Result<bool, AllocError>
     Ok(found.is_some())
 }
 
+fn first_node(path: &[usize]) -> usize
+    ensures { result ≡ slice_index path.now 0 }
+{
+    path.get(0).copied().unwrap_or(0)
+}
+
+fn start_of(path: &Option<Vec<usize>>) -> Option<usize>
+    ensures { result ≡ option_map (λ path. slice_index path.items 0) path.now }
+{
+    match path {
+        Some(path) => Some(first_node(path)),
+        None => None,
+    }
+}
+
+// The first node that the graph leads from back to itself.
+fn first_looping(alloc: Global, rows: &[Vec<usize>]) -> Result<Option<usize>, AllocError>
+    ensures { IfOk result (IsFirstLooping (graph_of rows.now)) }
+{
+    let found = first_loop(alloc, rows)?;
+    let start = start_of(&found);
+    Ok(start)
+}
+
 impl ModelTable {
     /// The containers with what they ask. It fails where memory runs out.
     pub fn new(alloc: Global, containers: Containers) -> Result<ModelTable, AllocError>
@@ -80,6 +105,15 @@ impl ModelTable {
         ensures { (result ≡ false) ↔ NoneReachesItself (containers_in self.now.containers) }
     {
         self.loops
+    }
+
+    /// The place of the first item that reaches itself at one value. It fails where memory runs out.
+    pub fn first_reaching(&self, alloc: Global) -> Result<Option<usize>, AllocError>
+        ensures { IfOk result (IsFirstReaching (containers_in self.now.containers)) }
+    {
+        let rows = graph_of(alloc, &self.names, self.containers.containers())?;
+        let found = first_looping(alloc, &rows)?;
+        Ok(found)
     }
 
     /// Which kinds of values the item of that name may read.

@@ -14,7 +14,8 @@ use schema_texts::{TextFault, Texts};
 use serde_json::Value;
 use value_models::Container;
 
-fn rule_of<'a>(constraints: &'a [Constraint], name: &str) -> Option<&'a Rule>
+/// The first rule of the item of that name. It takes time for each constraint before it.
+pub fn rule_of<'a>(constraints: &'a [Constraint], name: &str) -> Option<&'a Rule>
     ensures { option_map (λ r. rule_view r.now) result ≡ rule_of_in name.now (map constraint_view constraints.now) }
 {
     for constraint in constraints {

@@ -21,10 +21,10 @@ mod variants;
 pub use built::list_of;
 pub use choice::{Choice, choose};
 pub use demand::{Demand, fits, length_of, type_at};
-pub use holds::rule_holds;
+pub use holds::{rule_holds, rule_of};
 pub use leaf::{as_whole, is_absent, leaf_of, read_scalar};
 pub use members::{Member, members_of, name_value};
-pub use missing::{empty_value, without_default};
+pub use missing::{Absence, absence_of, empty_value, inner_type, without_default};
 pub use outcome::{
     Outcome, as_list, as_map, as_newtype, as_single, as_some, as_struct, as_unit, as_variant,
     if_sound, kept_if, paired, push_pair, push_typed, refused_at, refused_here, refused_pair_at,

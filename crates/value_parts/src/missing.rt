@@ -33,13 +33,14 @@ pub fn empty_value(alloc: Global, ty: &ValueType) -> Typed
 
 /// What a type asks for an absence: an option, behind boxes, or an item.
 #[derive(Clone, Copy)]
-pub(crate) enum Absence<'a> {
+pub enum Absence<'a> {
     Option,
     Item(&'a str),
     Nothing,
 }
 
-fn absence_of(ty: &ValueType) -> Absence<'_>
+/// What the type asks, behind its boxes.
+pub fn absence_of(ty: &ValueType) -> Absence<'_>
     ensures { absence_view result ≡ absence_in (type_view ty.now) }
 {
     match ty {
@@ -50,8 +51,8 @@ fn absence_of(ty: &ValueType) -> Absence<'_>
     }
 }
 
-// The type of a transparent newtype.
-fn inner_type(container: &Container) -> Option<&ValueType>
+/// The type of a transparent newtype.
+pub fn inner_type(container: &Container) -> Option<&ValueType>
     ensures { option_map (λ t. type_view t.now) result ≡ inner_of (container_view container.now) }
 {
     if !container.transparent {

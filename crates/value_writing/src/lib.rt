@@ -8,4 +8,5 @@ mod shape;
 mod wrap;
 mod writing;
 
+pub use members::put_member;
 pub use writing::write;

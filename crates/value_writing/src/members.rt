@@ -9,9 +9,9 @@ use serde_json::Value;
 use serde_json::value::Map;
 use std::alloc::{AllocError, Global};
 
+/// Puts a member where its name stands in order, in place of one of that name. It fails where memory runs out.
 #[tactic(auto, using(crate::proofs::Turns::entry_put))]
-/// Puts a member where its name stands in order, in place of one of that name.
-pub(crate) fn put_member(
+pub fn put_member(
     alloc: Global,
     members: &mut Map<String, Value>,
     name: &str,

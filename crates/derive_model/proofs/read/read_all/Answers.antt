@@ -1,8 +1,7 @@
-use Rattle.std.proofs.Common.{option_map}
 use Rattle.syntax_trees.specs.Item.{item_view}
-use Rattle.derive_ast.specs.Views.{container_view}
-use Rattle.derive_model.specs.Items.{read_of, told_of}
-use Rattle.derive_model.proofs.ReadItems.{item_told, item_read}
+use Rattle.attr_parts.specs.declared.derive.Derive.TheVariants.{Serialize, Deserialize}
+use Rattle.derive_model.specs.Items.{container_of, told_of}
+use Rattle.derive_model.proofs.ReadItems.{both_told, item_told, item_read}
 use Rattle.derive_model.proofs.read.read_all.Goals as goal
 
 pub loop-item-preserved : goal.loop-item-preserved
@@ -13,6 +12,7 @@ loop-item-preserved g c =
     let items = c.args.items.now in
     let x = c.item-item.result in
     record {
-      read = item_read item_view items l.item-index x c.loop-item-test.true c.item-item.is (option_map container_view) (read_of v f) l.read.items _ c.in_ok-container.container _ c.in_ok-push.ensures.items c.in_ok-container.ensures.container l.invariant.read;
-      told = item_told item_view items l.item-index x c.loop-item-test.true c.item-item.is (told_of v f) _ _ _ c.in_ok-container.ensures.told l.invariant.told;
+      written = item_read item_view items l.item-index x c.loop-item-test.true c.item-item.is (container_of v f Serialize) _ _ _ c.in_ok-read_one.ensures.containers l.invariant.written;
+      read = item_read item_view items l.item-index x c.loop-item-test.true c.item-item.is (container_of v f Deserialize) _ _ _ c.in_ok-read_one-2.ensures.containers l.invariant.read;
+      told = item_told item_view items l.item-index x c.loop-item-test.true c.item-item.is (told_of v f) _ _ _ (both_told v f (item_view x) _ _ _ c.in_ok-read_one.ensures.told c.in_ok-read_one-2.ensures.told) l.invariant.told;
     }

@@ -1,4 +1,4 @@
-use Rattle.std.proofs.Common.{◌≡◌, ◌≤◌, sym, ap, ◌∙◌, arith, rules}
+use Rattle.std.proofs.Common.{◌≡◌, ◌≤◌, arith, rules}
 use Rattle.reference_graph.specs.Graph.{graph_of}
 use Rattle.value_kinds.specs.Rounds.{next_kinds}
 use Rattle.value_kinds.proofs.Found.{quiet}

@@ -1,4 +1,4 @@
-use Rattle.std.proofs.Common.{◌≡◌, ◌↔◌, [], map, false, sym, ap, subst, ◌∙◌, rules}
+use Rattle.std.proofs.Common.{◌≡◌, [], map, sym, ap, subst, ◌∙◌, rules}
 use Rattle.name_tables.specs.Names.{all_entered}
 use Rattle.reference_graph.specs.Graph.{graph_of}
 use Rattle.value_models.specs.ContainersView.{containers_in}

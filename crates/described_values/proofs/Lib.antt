@@ -1,0 +1,6 @@
+mod Entered
+mod Members
+mod Gathered
+mod Tagged
+mod Lengths
+mod Defined

@@ -1,0 +1,9 @@
+mod Several
+mod Failing
+mod Picked
+mod Ruled
+mod KindsApart
+mod Leads
+mod Once
+mod Counted
+mod Formats

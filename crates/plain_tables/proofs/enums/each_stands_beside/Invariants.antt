@@ -1,0 +1,8 @@
+use Rattle.std.proofs.Common.{◌≡◌, drop}
+use Rattle.std.specs.List.{list_all}
+use Rattle.value_models.specs.VariantView.{variants_view}
+use Rattle.describe_defs.specs.Plain.{stands_beside}
+use Rattle.plain_tables.proofs.enums.each_stands_beside.Given as goal
+
+abbrev pub invariant-loop-variant : goal.invariant-loop-variant
+invariant-loop-variant l = list_all (stands_beside l.tag) (variants_view l.variants) ≡ list_all (stands_beside l.tag) (variants_view (drop l.variant-index l.variants))

@@ -1,0 +1,4 @@
+pub mod Given
+pub mod At
+pub mod Choices
+pub mod SettingView
