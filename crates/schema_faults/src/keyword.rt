@@ -53,7 +53,7 @@ pub enum Holds {
 }
 
 /// The keywords that are known, in the order of their bytes.
-pub(crate) const KEYWORDS: [(&str, Holds); 35] = [
+pub const KEYWORDS: [(&str, Holds); 35] = [
     ("$defs", Holds::Defs),
     ("$ref", Holds::Text),
     ("additionalItems", Holds::Schema),
@@ -92,7 +92,7 @@ pub(crate) const KEYWORDS: [(&str, Holds); 35] = [
 ];
 
 /// Whether a keyword that holds this is known, at the root or elsewhere.
-pub(crate) fn is_known(at_root: bool, holds: Holds) -> bool
+pub fn is_known(at_root: bool, holds: Holds) -> bool
     ensures { result ≡ is_known_at at_root holds }
 {
     match holds {

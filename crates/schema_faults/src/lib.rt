@@ -15,4 +15,4 @@ mod search;
 
 pub use first::{first_bad_reference, first_float, first_malformed, is_internal_reference};
 pub use found::{Found, Place};
-pub use keyword::Holds;
+pub use keyword::{Holds, KEYWORDS, is_known};

@@ -5,3 +5,4 @@ pub mod Holding
 pub mod Told
 pub mod Refusals
 pub mod Coming
+pub mod Plainly

@@ -1,5 +1,5 @@
 -- Where a definition stands.
-use Rattle.std.proofs.Common.{◌≡◌, List, ℕ, [], ◌∷◌, Bool, true, false, Some, None, Option, codes, bytes_eq, refl, sym, ap, subst, ◌∙◌, true≢false}
+use Rattle.std.proofs.Common.{◌≡◌, ◌⊎◌, inl, inr, List, ℕ, [], ◌∷◌, Bool, true, false, Some, None, Option, codes, bytes_eq, refl, sym, ap, subst, ◌∙◌, true≢false}
 use Rattle.std.specs.Prelude.{◌||◌, is_some, option_and_then, if◌then◌else◌}
 use Rattle.std.proofs.lemmas.Slice.Eq.{bytes_eq-Decides}
 use Rattle.json_value.specs.Value.{same_bool}
@@ -74,3 +74,10 @@ module _ (d : Document) (w n : List ℕ) (word : Bool) (known : word ≡ (bytes_
 
     pub is_there : word ≡ true → there ≡ true → Some (definition n) ≡ definition_at w n (defined n d.definitions)
     is_there h e = sym (ap (λ b. either b n) (sym stands ∙ e)) ∙ under-word d w n (sym known ∙ h)
+
+-- what stands at a definition's place has an item
+pub items-are-there : (d : Document) (w n : List ℕ) (s : Schema) → (w ≡ definition_word false) ⊎ (w ≡ definition_word true) → schema_at d (w ∷ n ∷ []) ≡ Some s → definition_at w n (defined n d.definitions) ≡ Some (definition n)
+items-are-there d w n s (inl e) g =
+    sym (subst (λ (w : List ℕ). either (is-at d w n) n ≡ definition_at w n (defined n d.definitions)) (sym e) (at-definitions d n)) ∙ ap (λ (o : Option Schema). either (is_some o) n) g
+items-are-there d w n s (inr e) g =
+    sym (subst (λ (w : List ℕ). either (is-at d w n) n ≡ definition_at w n (defined n d.definitions)) (sym e) (at-defs d n)) ∙ ap (λ (o : Option Schema). either (is_some o) n) g

@@ -5,3 +5,4 @@ pub mod Space
 pub mod Added
 pub mod Refused
 pub mod Laws
+pub mod Plain

@@ -1,9 +1,9 @@
 //! The space and its calls.
-ghost use Rattle.std.specs.Prelude.{◌≡◌, ◌≤◌, [], true, false, Some, None, IfErr, IfOk, OnOk, is_some, map, option_map};
+ghost use Rattle.std.specs.Prelude.{◌≡◌, ◌⊎◌, ◌≤◌, [], true, false, Some, None, IfErr, IfOk, OnOk, is_some, map, option_map};
 ghost use Rattle.std.specs.List.{IsDistinct};
 ghost use Rattle.schema_defs.specs.Children.{schema_at};
 ghost use Rattle.schema_tree.specs.Document.{view as document_seen};
-ghost use Rattle.schema_tree.specs.Fault.{FaultD, fault_view};
+ghost use Rattle.schema_tree.specs.Fault.{FaultD, fault_view, memory};
 ghost use Rattle.convert_walks.specs.Told.{ordered};
 ghost use Rattle.convert_document.specs.Told.{AreFine, Refuses};
 ghost use Rattle.convert_document.specs.Levels.{most_levels};
@@ -17,7 +17,9 @@ ghost use Rattle.convert_document.specs.Note.{note_of};
 ghost use Rattle.typify_convert.specs.Space.{History, Holds, IsOfSame, depth_in, document_in, entries_in, is_begun, nothing, refusal_in};
 ghost use Rattle.history_laws.specs.Added.{target_nodes};
 ghost use Rattle.typify_convert.specs.Added.{Adds, added, added_nodes, met_nodes, with_targets};
+ghost use Rattle.plain_defs.specs.Plain.{IsPlain};
 ghost use Rattle.typify_convert.specs.Refused.{IsRefusal, IsUnread};
+ghost use Rattle.typify_convert.specs.Plain.{AddsNoNote, IsPlainAt, IsQuiet, IsRefusedPlainly};
 
 use crate::collect::add_targets;
 use crate::finish::finished;
@@ -69,12 +71,15 @@ impl<'d> TypeSpace<'d> {
     }
 
     /// Converts what references lead to: each definition in the order of their names, and then the root, where some `$ref` is `#`.
-    /// Refused is the first fault in that order, each schema before its parts.
+    /// Refused is the first fault in that order, each schema before its parts. A document of plain rows alone, of at most as many schemas as the depth (`IsPlain`),
+    /// adds no note, and is refused by want of memory or a failure of the judge of texts alone.
     pub fn add_ref_types<T: Texts>(&mut self, texts: &mut T) -> Result<(), Fault>
         requires begins { is_begun self.old ≡ false }
         ensures added { OnOk result ((h : History) → Holds self.old h → Holds self.new (with_targets (T.relations texts.old) (document_in self.old) (depth_in self.old) most_levels h)) }
         ensures fine { OnOk result (AreFine (T.relations texts.old) (document_in self.old) (depth_in self.old) most_levels (target_nodes (T.relations texts.old) (document_in self.old) (depth_in self.old) most_levels)) }
         ensures refused { IfErr result (λ f. IsRefusal (refusal_in self.old) (Refuses (T.relations texts.old) (document_in self.old) (depth_in self.old) most_levels (T.faults texts.old) (T.faults texts.new) (target_nodes (T.relations texts.old) (document_in self.old) (depth_in self.old) most_levels)) (fault_view f)) }
+        ensures plain_unnoted { OnOk result (IsPlain (document_in self.old) (depth_in self.old) → (h : History) → Holds self.old h → AddsNoNote h self.new) }
+        ensures plain_refused { IfErr result (λ f. IsPlain (document_in self.old) (depth_in self.old) → IsRefusedPlainly (refusal_in self.old) (T.faults texts.old) (T.faults texts.new) (target_nodes (T.relations texts.old) (document_in self.old) (depth_in self.old) most_levels) (fault_view f)) }
         ensures kept { IfErr result (λ f. refusal_in self.new ≡ Some (fault_view f)) }
         ensures before { OnOk result (refusal_in self.old ≡ None) }
         ensures after { OnOk result (refusal_in self.new ≡ None) }
@@ -118,13 +123,16 @@ impl<'d> TypeSpace<'d> {
 
     /// The id of the schema at a location. A definition, and the root where some `$ref` is `#`, has it already, and nothing is
     /// converted. Elsewhere the schema is converted anew; where that gives a reference it has an entry of its own. Where it lists values,
-    /// the items that references lead to are converted once more, to ask those. Refused is the first fault in that order.
+    /// the items that references lead to are converted once more, to ask those. Refused is the first fault in that order. A row of a plain document
+    /// (`IsPlainAt`) adds no note, and is refused by want of memory or a failure of the judge of texts alone.
     pub fn add_type<T: Texts>(&mut self, at: &Location, texts: &mut T) -> Result<TypeId, Fault>
         requires begun { is_begun self.old ≡ true }
         requires there { is_some (schema_at (document_in self.old) at.now) ≡ true }
         ensures added { IfOk result (λ i. (h : History) → Holds self.old h → Adds self.new (id_view i) (added (T.relations texts.old) (document_in self.old) (depth_in self.old) most_levels at.now None h)) }
         ensures fine { OnOk result (AreFine (T.relations texts.old) (document_in self.old) (depth_in self.old) most_levels (added_nodes (T.relations texts.old) (document_in self.old) (depth_in self.old) most_levels at.now None)) }
         ensures refused { IfErr result (λ f. IsRefusal (refusal_in self.old) (Refuses (T.relations texts.old) (document_in self.old) (depth_in self.old) most_levels (T.faults texts.old) (T.faults texts.new) (met_nodes (T.relations texts.old) (document_in self.old) (depth_in self.old) most_levels at.now None)) (fault_view f)) }
+        ensures plain_unnoted { OnOk result (IsPlainAt (document_in self.old) (depth_in self.old) at.now → (h : History) → Holds self.old h → AddsNoNote h self.new) }
+        ensures plain_refused { IfErr result (λ f. IsPlainAt (document_in self.old) (depth_in self.old) at.now → IsRefusedPlainly (refusal_in self.old) (T.faults texts.old) (T.faults texts.new) (added_nodes (T.relations texts.old) (document_in self.old) (depth_in self.old) most_levels at.now None) (fault_view f)) }
         ensures kept { IfErr result (λ f. refusal_in self.new ≡ Some (fault_view f)) }
         ensures before { OnOk result (refusal_in self.old ≡ None) }
         ensures after { OnOk result (refusal_in self.new ≡ None) }
@@ -149,6 +157,8 @@ impl<'d> TypeSpace<'d> {
         ensures added { IfOk result (λ i. (h : History) → Holds self.old h → Adds self.new (id_view i) (added (T.relations texts.old) (document_in self.old) (depth_in self.old) most_levels at.now (option_map (λ n. n.now) name.entry) h)) }
         ensures fine { OnOk result (AreFine (T.relations texts.old) (document_in self.old) (depth_in self.old) most_levels (added_nodes (T.relations texts.old) (document_in self.old) (depth_in self.old) most_levels at.now (option_map (λ n. n.now) name.entry))) }
         ensures refused { IfErr result (λ f. IsRefusal (refusal_in self.old) (Refuses (T.relations texts.old) (document_in self.old) (depth_in self.old) most_levels (T.faults texts.old) (T.faults texts.new) (met_nodes (T.relations texts.old) (document_in self.old) (depth_in self.old) most_levels at.now (option_map (λ n. n.now) name.entry))) (fault_view f)) }
+        ensures plain_unnoted { OnOk result (IsPlainAt (document_in self.old) (depth_in self.old) at.now → (h : History) → Holds self.old h → AddsNoNote h self.new) }
+        ensures plain_refused { IfErr result (λ f. IsPlainAt (document_in self.old) (depth_in self.old) at.now → IsRefusedPlainly (refusal_in self.old) (T.faults texts.old) (T.faults texts.new) (added_nodes (T.relations texts.old) (document_in self.old) (depth_in self.old) most_levels at.now (option_map (λ n. n.now) name.entry)) (fault_view f)) }
         ensures kept { IfErr result (λ f. refusal_in self.new ≡ Some (fault_view f)) }
         ensures before { OnOk result (refusal_in self.old ≡ None) }
         ensures after { OnOk result (refusal_in self.new ≡ None) }
@@ -222,6 +232,8 @@ impl<'d> TypeSpace<'d> {
         ensures read { OnOk result ((h : History) → Holds self.entry h → h.unread ≡ []) }
         ensures before { OnOk result (refusal_in self.entry ≡ None) }
         ensures refused { IfErr result (λ f. IsRefusal (refusal_in self.entry) (λ (g : FaultD). (h : History) → Holds self.entry h → IsUnread h.unread g) (fault_view f)) }
+        ensures quiet_unnoted { IfOk result (λ e. (h : History) → Holds self.entry h → IsQuiet h → e.notes.items ≡ []) }
+        ensures quiet_refused { IfErr result (λ f. (h : History) → Holds self.entry h → IsQuiet h → (fault_view f ≡ memory) ⊎ (refusal_in self.entry ≡ Some (fault_view f))) }
         ensures keeps { T.relations texts.new ≡ T.relations texts.old }
         ensures counts { T.faults texts.old ≤ T.faults texts.new }
     {

@@ -49,7 +49,7 @@ i64_at f (y ∷ ys) (suc i) x h k = i64_at f ys i x (both_true (holds_i64_alone 
 
 -- ---- what verdicts say, where no item reaches itself
 
-said : (ms : List ContainerModel) (cs : ConversionsD) (r : Relations) (t : TypeModel) (d : Data) (v : VerdictD) → NoneReachesItself ms
+pub said : (ms : List ContainerModel) (cs : ConversionsD) (r : Relations) (t : TypeModel) (d : Data) (v : VerdictD) → NoneReachesItself ms
     → IsVerdict ms cs r t (value_of d) v → IsJudged (reads ms cs r t) (settled ms cs r t) (refused_at ms cs r t) d v
 said ms cs r t d (taken w) none h = (h.0, h.2 none)
 said ms cs r t d (refused l) none h = h
@@ -73,7 +73,7 @@ verdicts_alike ms ns cs es r t ds vs e f h = subst (λ ks. AreVerdicts ks es r t
 
 -- ---- what is written is printed
 
-printed : (ms : List ContainerModel) (cs : ConversionsD) (r : Relations) (t : TypeModel) (d : Data) (v : VerdictD) → NoneReachesItself ms → list_all has_json_numbers cs.defaults ≡ true
+pub printed : (ms : List ContainerModel) (cs : ConversionsD) (r : Relations) (t : TypeModel) (d : Data) (v : VerdictD) → NoneReachesItself ms → list_all has_json_numbers cs.defaults ≡ true
     → holds_i64_alone (value_of d) ≡ true → IsVerdict ms cs r t (value_of d) v → IsPrintable v
 printed ms cs r t d (taken w) none n i h =
     no_float w (ap has_json_numbers (h.2 none) ∙ settled_numbers ms cs r n t (value_of d) (json_numbers (value_of d) i))

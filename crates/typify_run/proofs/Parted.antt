@@ -1,6 +1,6 @@
 -- What is said of a schema and values is said of the parts of an input that they are.
-use Rattle.std.proofs.Common.{◌≡◌, inl, inr, List, true, sym, subst}
-use Rattle.serde_json.specs.Data.{Data}
+use Rattle.std.proofs.Common.{◌≡◌, inl, inr, List, [], true, refl, sym, subst}
+use Rattle.serde_json.specs.Data.{Data, no_items}
 use Rattle.json_value.specs.View.{value_of}
 use Rattle.schema_tree.specs.Document.{IsAccepted}
 use Rattle.schema_tree.specs.Fault.{fault_view, memory}
@@ -9,8 +9,18 @@ use Rattle.run_input.specs.Input.{Parts}
 use Rattle.typify_run.specs.Call.{Call}
 use Rattle.typify_run.specs.Headline.{IsReportOf}
 use Rattle.typify_run.specs.Examine.{IsCause, IsEmission, IsRefusal, IsTextsFault, is_examined}
-use Rattle.typify_run.specs.Outcome.{IsCaused, IsReported, values_of}
+use Rattle.typify_run.specs.Outcome.{IsCaused, IsReported, examined, values_of}
 use Rattle.typify_run.specs.declared.report.Report.{Report}
+use Rattle.typify_run.specs.declared.words.Command.{Command}
+use Rattle.typify_run.specs.declared.words.Command.TheVariants.{Check, Items}
+
+-- where no value is listed none is examined
+none_of : (command : Command) → examined command [] ≡ []
+none_of Check = refl
+none_of Items = refl
+
+pub none_examined : (c : Call) (schema : Data) → values_of c.command (record { schema = schema; values = no_items }) ≡ []
+none_examined c schema = none_of c.command
 
 module _ (c : Call) (schema : Data) (values : List Data) (parts : Parts) (same : parts.schema ≡ schema) (listed : values_of c.command parts ≡ values) where
   pub reported_of : (r : Report) → IsReportOf c.setting c.texts (value_of schema) values r → is_examined c.setting c.texts c.depth (value_of schema) values ≡ true → IsAccepted (value_of schema) → IsEmission c.setting c.texts c.depth (value_of schema) r → IsReported c parts r

@@ -40,7 +40,7 @@ use Rattle.reading_defs.specs.Laws.{defaults_are_sound}
 use Rattle.typify_run.specs.Headline as headline
 use Rattle.typify_run.specs.Headline.{Deriving, read_of, items_of, HasNone, IsNarrowed, IsWidened, report_reads, document_admits, IsReportOf}
 use Rattle.typify_run.specs.Page.{ArePrintable}
-use Rattle.typify_run.specs.Examine.{as_it_stands, is_none_of, IsMadeOf}
+use Rattle.typify_run.specs.Examine.{as_it_stands, is_none_of, CanJudge, IsMadeOf}
 use Rattle.typify_run.specs.declared.report.Report.{Report}
 use Rattle.typify_run.proofs.Judged.{judged_alike, printable}
 
@@ -160,3 +160,6 @@ module _ (r : Relations) (d : Document) (depth : ℕ) (values : List Data) (repo
   all_printable i =
       printable (read_of as_it_stands (items_of report)) (conversions_view report.conversions) r (headline.root_of report) values (map verdict_view report.verdicts.items)
       ends h.sound.numbers i h.verdicts
+
+  pub can_judge : CanJudge r report
+  can_judge = record { sound = h.sound; ends = ends; alike = λ how. same_models how ∙ sym (same_models as_it_stands) }

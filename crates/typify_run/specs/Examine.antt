@@ -2,6 +2,7 @@
 use Rattle.std.specs.Prelude.{◌≡◌, ◌&&◌, ◌⊎◌, ℕ, List, [], ◌∷◌, map, Bool, true, false, Option, Some, None}
 use Rattle.serde_json.specs.Data.{Data}
 use Rattle.json_value.specs.Value.{Value}
+use Rattle.model_defs.specs.Reach.{NoneReachesItself}
 use Rattle.schema_defs.specs.declared.Setting.{Setting}
 use Rattle.schema_defs.specs.Texts.{Relations}
 use Rattle.schema_defs.specs.Schema.{Document}
@@ -21,7 +22,7 @@ use Rattle.attr_parts.specs.declared.derive.Derive.TheVariants.{Deserialize}
 use Rattle.derive_model.specs.Items.{private}
 use Rattle.derive_model.specs.VerdictView.{verdict_view}
 use Rattle.typify_run.specs.Verdicts.{AreVerdicts}
-use Rattle.typify_run.specs.Headline.{Deriving, read_of, items_of, root_of, emission_in}
+use Rattle.typify_run.specs.Headline.{Deriving, read_of, items_of, models_of, root_of, emission_in}
 use Rattle.typify_run.specs.declared.report.Report.{Report}
 
 abbrev pub is_none_of : {A : Type 0} → List A → Bool
@@ -81,3 +82,10 @@ pub record IsEmission (setting : Setting) (r : Relations) (depth : ℕ) (schema 
   pub notes : report.notes.items ≡ map note_of (notes_of r document depth most_levels)
   pub faultless : faults_of r document depth most_levels ≡ []
   pub read : unread_in_document r document depth most_levels ≡ []
+
+-- Further values can be judged by the report's items: the stated defaults are sound, no item reaches itself by value, and however the items are read, their
+-- containers are the same.
+pub record CanJudge (r : Relations) (report : Report) : Type 0 where
+  pub sound : AreSound (read_of as_it_stands (items_of report)) (conversions_view report.conversions) r
+  pub ends : NoneReachesItself (read_of as_it_stands (items_of report))
+  pub alike : (how : Deriving) → models_of how report ≡ read_of as_it_stands (items_of report)

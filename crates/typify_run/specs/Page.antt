@@ -45,8 +45,12 @@ verdict_lines i (v ∷ vs) = verdict_line i v ++ verdict_lines (suc i) vs
 abbrev pub items_line : ℕ → List ℕ
 items_line n = codes "items " ++ decimal n ++ end_line
 
+-- how many items there are, and the notes
+abbrev pub head : Report → List ℕ
+head r = items_line (length r.items.items) ++ notes_text r.notes.items
+
 abbrev pub page : Report → List ℕ
-page r = items_line (length r.items.items) ++ notes_text r.notes.items ++ verdict_lines 0 (map verdict_view r.verdicts.items) ++ codes "end\n"
+page r = head r ++ verdict_lines 0 (map verdict_view r.verdicts.items) ++ codes "end\n"
 
 -- an item as serde's derives read it, each `Self` replaced by the item's own type
 abbrev pub item_line : DeriveInput → List ℕ

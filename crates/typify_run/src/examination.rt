@@ -13,7 +13,7 @@ ghost use Rattle.document_laws.specs.Laws.{WasRead};
 ghost use Rattle.reading_defs.specs.Laws.{defaults_are_sound};
 ghost use Rattle.derive_model.specs.Judging.{AreSound};
 ghost use Rattle.typify_run.specs.Verdicts.{AreVerdicts, IsUnjudged};
-ghost use Rattle.typify_run.specs.Examine.{as_it_stands, IsEmission, IsMadeOf, IsRefusal, IsUnreported, is_examined};
+ghost use Rattle.typify_run.specs.Examine.{as_it_stands, CanJudge, IsEmission, IsMadeOf, IsRefusal, IsUnreported, is_examined};
 ghost use Rattle.typify_run.specs.Headline.{IsReportOf, read_of};
 ghost use Rattle.typify_run.specs.Page.{ArePrintable};
 ghost use Rattle.typify_run.specs.PlainInputs.{IsPlainInput, IsRefusedPlainly};
@@ -103,6 +103,7 @@ pub fn examine<T: Texts>(
     ensures report { IfOk result (λ r. IsReportOf Setting.Strict (T.relations texts.old) (value_of (view document.now)) (map view values.now) r) }
     ensures emission { IfOk result (λ r. IsEmission Setting.Strict (T.relations texts.old) depth (value_of (view document.now)) r) }
     ensures printable { IfOk result (λ r. ArePrintable (map verdict_view r.verdicts.items)) }
+    ensures judges { IfOk result (λ r. CanJudge (T.relations texts.old) r) }
     ensures examined { OnOk result (is_examined Setting.Strict (T.relations texts.old) depth (value_of (view document.now)) (map view values.now) ≡ true) }
     ensures accepted { OnOk result (IsAccepted (value_of (view document.now))) }
     ensures refused { IfErr result (λ f. IsRefusal Setting.Strict (T.relations texts.old) depth (T.faults texts.old) (T.faults texts.new) (value_of (view document.now)) (map view values.now) (fault_view f)) }
@@ -134,6 +135,7 @@ pub fn examine_with<T: Texts>(
     ensures report { IfOk result (λ r. IsReportOf setting (T.relations texts.old) (value_of (view document.now)) (map view values.now) r) }
     ensures emission { IfOk result (λ r. IsEmission setting (T.relations texts.old) depth (value_of (view document.now)) r) }
     ensures printable { IfOk result (λ r. ArePrintable (map verdict_view r.verdicts.items)) }
+    ensures judges { IfOk result (λ r. CanJudge (T.relations texts.old) r) }
     ensures examined { OnOk result (is_examined setting (T.relations texts.old) depth (value_of (view document.now)) (map view values.now) ≡ true) }
     ensures accepted { OnOk result (IsAccepted (value_of (view document.now))) }
     ensures refused { IfErr result (λ f. IsRefusal setting (T.relations texts.old) depth (T.faults texts.old) (T.faults texts.new) (value_of (view document.now)) (map view values.now) (fault_view f)) }

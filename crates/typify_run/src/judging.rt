@@ -19,9 +19,10 @@ use serde_json::Value;
 use std::alloc::Global;
 use syntax_trees::Ty;
 
-// The verdict on one value.
+/// The verdict on one value, whose numbers are i64, by items whose stated defaults are sound. Fails with `Memory` where memory runs out, and
+/// with `Texts` at the root where the judge of texts fails.
 #[tactic(auto, using(crate::proofs::Numbers::json_numbers))]
-fn verdict<T: Texts>(
+pub fn judge_value<T: Texts>(
     alloc: Global,
     models: &Module<'_>,
     root: &Ty,
@@ -85,7 +86,7 @@ pub(crate) fn verdicts<T: Texts>(
 {
     let mut verdicts = Vec::new(alloc);
     for value in values {
-        let told = verdict(alloc, models, root, value, texts)?;
+        let told = judge_value(alloc, models, root, value, texts)?;
         push_verdict(&mut verdicts, told)?;
     }
     Ok(verdicts)

@@ -3,7 +3,7 @@ ghost use Rattle.std.specs.Prelude.{◌≡◌, ◌++◌, OnOk, IfOk, string_byte
 ghost use Rattle.serde_json.specs.Written.{has_float};
 ghost use Rattle.serde_json.specs.View.{view};
 ghost use Rattle.derive_model.specs.VerdictView.{verdict_view, taken, refused};
-ghost use Rattle.typify_run.specs.Page.{page, page_of, items_page, item_line as item_line_of, item_lines, note_line as note_line_of, notes_text, value_line as value_line_of, verdict_line as verdict_line_of, verdict_lines, IsPrintable, ArePrintable};
+ghost use Rattle.typify_run.specs.Page.{head, page, page_of, items_page, item_line as item_line_of, item_lines, note_line as note_line_of, notes_text, value_line as value_line_of, verdict_line as verdict_line_of, verdict_lines, IsPrintable, ArePrintable};
 
 use crate::words::Command;
 use convert_document::Note;
@@ -36,7 +36,8 @@ impl Drop for Report {
     }
 }
 
-fn note_line(alloc: Global, note: &Note) -> Result<String, AllocError>
+/// The line of a note: the way, the kind and the place.
+pub fn note_line(alloc: Global, note: &Note) -> Result<String, AllocError>
     ensures { IfOk result (λ s. string_bytes s ≡ note_line_of note.now) }
 {
     let way = note.way.text();
@@ -127,6 +128,16 @@ fn push_items(out: &mut String, alloc: Global, items: &[DeriveInput]) -> Result<
     Ok(())
 }
 
+/// The head of the page: a line with the number of items, and a line for each note.
+pub fn head_text(alloc: Global, report: &Report) -> Result<String, AllocError>
+    ensures { IfOk result (λ s. string_bytes s ≡ head report.now) }
+{
+    let count = report.items.len();
+    let mut page = format!(in alloc; "items {count}\n")?;
+    push_notes(&mut page, alloc, &report.notes)?;
+    Ok(page)
+}
+
 impl Report {
     /// The page that the command asks for.
     pub(crate) fn page_of(&self, alloc: Global, command: Command) -> Result<String, AllocError>
@@ -144,9 +155,7 @@ impl Report {
         requires { ArePrintable (map verdict_view self.now.verdicts.items) }
         ensures { IfOk result (λ s. string_bytes s ≡ page self.now) }
     {
-        let count = self.items.len();
-        let mut page = format!(in alloc; "items {count}\n")?;
-        push_notes(&mut page, alloc, &self.notes)?;
+        let mut page = head_text(alloc, self)?;
         push_verdicts(&mut page, alloc, &self.verdicts)?;
         page.push_str("end\n")?;
         Ok(page)

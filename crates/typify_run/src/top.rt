@@ -1,9 +1,9 @@
 //! The run of the program, over any source, sink and judge of texts.
-ghost use Rattle.std.specs.Prelude.{◌≡◌, ◌≢◌, ◌≤◌, ◌↔◌, ◌⊎◌, false, ℕ, List, [], map, length, Some, None, string_bytes};
+ghost use Rattle.std.specs.Prelude.{◌≡◌, ◌≢◌, ◌≤◌, ◌↔◌, ◌⊎◌, false, ℕ, List, [], map, length, IfOk, Some, None, string_bytes};
 ghost use Rattle.serde_json.specs.View.{view};
 ghost use Rattle.schema_defs.specs.Faults.{Rises};
 ghost use Rattle.schema_defs.specs.Texts.{Relations};
-ghost use Rattle.schema_tree.specs.Fault.{FaultD, fault_view};
+ghost use Rattle.schema_tree.specs.Fault.{FaultD, fault_line, fault_view, memory as out_of_memory};
 ghost use Rattle.run_input.specs.Input.{Parts, IsInput, IsNoInput, limit};
 ghost use Rattle.typify_run.specs.Outcome.{Answers, Ends, EndsReading, IsBare, IsCarried, IsCauseIn, IsCaused, IsCutShort, IsFaultPrinted, IsMemorySpent, IsPrinting, IsReportPrinted, IsReported, IsWritingCut, examined as examined_of, is_built, values_of};
 ghost use Rattle.typify_run.specs.Page.{ArePrintable};
@@ -20,7 +20,7 @@ use run_input::{InputError, LIMIT, input_parts, input_value};
 use run_io::{InputFault, Sink, SinkFault, Source, put, read_input};
 use schema_tree::{Fault, Texts};
 use serde_json::Value;
-use std::alloc::Global;
+use std::alloc::{AllocError, Global};
 
 // The report printed.
 fn print_report<K: Sink>(alloc: Global, asked: Asked, report: Report, sink: &mut K) -> Outcome
@@ -45,6 +45,14 @@ fn print_report<K: Sink>(alloc: Global, asked: Asked, report: Report, sink: &mut
         },
         Err(SinkFault::Memory) => Outcome::bare(6),
     }
+}
+
+/// The line that tells a fault, other than want of memory.
+pub fn fault_text(alloc: Global, fault: &Fault) -> Result<String, AllocError>
+    requires { fault_view fault.now ≢ out_of_memory }
+    ensures { IfOk result (λ s. string_bytes s ≡ fault_line (fault_view fault.now)) }
+{
+    fault.line(alloc)
 }
 
 // The line of a fault printed.

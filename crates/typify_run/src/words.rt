@@ -56,7 +56,7 @@ pub(crate) fn command_of_words(words: &[String]) -> Command
 }
 
 /// The setting that the words ask for, where they are some of the forms: `NullAbsent` where the third is `--null-absent`.
-pub(crate) fn setting_of_words(words: &[String]) -> Setting
+pub fn setting_of_words(words: &[String]) -> Setting
     ensures { result ≡ setting_said (map string_bytes words.now) }
 {
     match words {
@@ -71,7 +71,8 @@ pub(crate) fn setting_of_words(words: &[String]) -> Setting
     }
 }
 
-fn is_null_absent(word: &str) -> bool
+/// Whether the word asks for the setting under which null may stand for the absence of a property: `--null-absent`.
+pub fn is_null_absent(word: &str) -> bool
     ensures { result ≡ is_null_absent_of word.now }
 {
     word == "--null-absent"
@@ -89,8 +90,8 @@ fn depth_in(word: &str, depth: &str) -> Option<u32>
     }
 }
 
-// One to three digits without a leading zero, up to 512.
-fn depth_of(digits: &[u8]) -> Option<u32>
+/// The depth that a word says: one to three digits without a leading zero, from 1 to 512.
+pub fn depth_of(digits: &[u8]) -> Option<u32>
     ensures exact { result ≡ depth_read digits.now }
     ensures within { IfSome result (λ n. 1 ≤ n) }
 {

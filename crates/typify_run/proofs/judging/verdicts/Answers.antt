@@ -14,8 +14,8 @@ use Rattle.typify_run.specs.Verdicts.{AreVerdicts}
 use Rattle.typify_run.proofs.Judged.{verdicts_more, i64_at}
 use Rattle.typify_run.proofs.judging.verdicts.Goals as goal
 
-pub verdict-requires-clause-numbers : goal.verdict-requires-clause-numbers
-verdict-requires-clause-numbers g c =
+pub judge_value-requires-clause-numbers : goal.judge_value-requires-clause-numbers
+judge_value-requires-clause-numbers g c =
     let xs = c.args.values.now in
     subst (λ (w : Value). holds_i64_alone (value_of (view w)) ≡ true) (sym c.value-item.is) (i64_at view xs c.loop-value.value-index c.value-item.result c.requires.numbers c.loop-value-test.true)
 

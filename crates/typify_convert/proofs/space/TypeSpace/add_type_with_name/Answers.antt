@@ -6,6 +6,9 @@ use Rattle.convert_document.specs.Told.{AreFine, Refuses}
 use Rattle.typify_convert.specs.Space.{History, Holds, document_in, depth_in, refusal_in}
 use Rattle.typify_convert.specs.Added.{Adds, added, added_nodes, met_nodes}
 use Rattle.typify_convert.specs.Refused.{IsRefusal}
+use Rattle.typify_convert.specs.Plain.{IsPlainAt, IsRefusedPlainly}
+use Rattle.typify_convert.proofs.Told.{if_err_mapped}
+use Rattle.typify_convert.proofs.Plainly.{if_ok_on, schema_unnoted, schema_plainly}
 use Rattle.typify_convert.proofs.space.TypeSpace.add_type_with_name.Goals as goal
 
 pub returns-clause-added : goal.returns-clause-added
@@ -31,3 +34,20 @@ returns-clause-refused g c =
     subst
     (λ (n : ℕ). IfErr c.type_within.result (λ f. IsRefusal (refusal_in c.args.self.now) (Refuses r d m n (g.T.Texts.faults c.args.texts.now) (g.T.Texts.faults c.type_within.new.texts) (met_nodes r d m n c.args.at.now (option_map (λ n. n.now) c.args.name))) (fault_view f)))
     c.levels-most.ensures c.type_within.ensures.refused
+
+pub returns-clause-plain_unnoted : goal.returns-clause-plain_unnoted
+returns-clause-plain_unnoted g c =
+    if_ok_on c.type_within.result _
+    (λ i made. schema_unnoted (g.T.Texts.relations c.args.texts.now) (document_in c.args.self.now) (depth_in c.args.self.now) c.levels-most.result c.args.at.now (option_map (λ n. n.now) c.args.name) c.args.self.now c.type_within.new.self (id_view i) made)
+    c.type_within.ensures.added
+
+pub returns-clause-plain_refused : goal.returns-clause-plain_refused
+returns-clause-plain_refused g c =
+    let r = g.T.Texts.relations c.args.texts.now in
+    let d = document_in c.args.self.now in
+    let m = depth_in c.args.self.now in
+    let before = g.T.Texts.faults c.args.texts.now in
+    let after = g.T.Texts.faults c.type_within.new.texts in
+    let name = option_map (λ n. n.now) c.args.name in
+    subst (λ (n : ℕ). IfErr c.type_within.result (λ f. IsPlainAt d m c.args.at.now → IsRefusedPlainly (refusal_in c.args.self.now) before after (added_nodes r d m n c.args.at.now name) (fault_view f))) c.levels-most.ensures
+    (if_err_mapped c.type_within.result _ _ (λ f k. schema_plainly r d m c.levels-most.result c.args.at.now name (refusal_in c.args.self.now) before after (fault_view f) k) c.type_within.ensures.refused)
