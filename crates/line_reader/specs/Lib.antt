@@ -1,0 +1,4 @@
+pub mod Lines
+pub mod Feed
+pub mod State
+pub mod Reading

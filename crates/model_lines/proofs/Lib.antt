@@ -1,0 +1,10 @@
+pub mod Options
+pub mod Appended
+pub mod LinesRead
+pub mod Answering
+pub mod Going
+pub mod Beginning
+pub mod Texts
+pub mod Calls
+pub mod Promises
+pub mod Unjudged
