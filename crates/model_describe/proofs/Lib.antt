@@ -1,0 +1,4 @@
+mod Read
+mod Modelled
+mod Lengths
+mod Plainly

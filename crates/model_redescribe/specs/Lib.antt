@@ -1,0 +1,2 @@
+pub mod Redescribed
+pub mod Laws
