@@ -1,0 +1,9 @@
+pub mod Turns
+pub mod Looked
+pub mod Answered
+pub mod Finding
+pub mod Leading
+pub mod Listed
+pub mod Untagged
+pub mod AnyValue
+pub mod Told

@@ -1,0 +1,8 @@
+use Rattle.std.proofs.Common.{◌≡◌, ◌++◌, drop}
+use Rattle.evolve_ways.specs.Ways.{field_marks}
+use Rattle.evolve_rows.specs.Found.{refs_view}
+use Rattle.evolve_rows.specs.MarksView.{steps_view}
+use Rattle.evolve_rows.proofs.marks.push_fields.Given as goal
+
+abbrev pub invariant-loop-field : goal.invariant-loop-field
+invariant-loop-field l = steps_view l.steps.items ++ field_marks (refs_view (drop l.field-index l.fields)) ≡ steps_view l.fn.steps.items ++ field_marks (refs_view l.fields)

@@ -1,0 +1,5 @@
+pub mod Sound
+pub mod Parts
+pub mod Found
+pub mod Rounds
+pub mod Ways

@@ -1,0 +1,4 @@
+pub mod Same
+pub mod Keyed
+pub mod Walking
+pub mod Way

@@ -1,0 +1,2 @@
+pub mod WayView
+pub mod Answer
