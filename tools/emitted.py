@@ -179,6 +179,11 @@ def item_of(text):
     return Parser(text).item()
 
 
+def type_of(text):
+    """The type that stands in a text with no more spaces than rustfmt leaves."""
+    return Parser(" ".join(re.findall(r"::|\w+|[^\w\s:]", text))).type()
+
+
 def written(ty):
     """A type as Rust text."""
     if ty[0] == "tuple":

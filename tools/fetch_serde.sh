@@ -1,10 +1,11 @@
 #!/usr/bin/env bash
-# Fetches serde and what tools/real_serde.py stands on, as sources, from Debian's packages into FOLDER/registry.
+# Fetches serde and what tools/real_serde.py and tools/real_reader.py stand on, as sources, from Debian's packages into FOLDER/registry.
 # Nothing is installed: apt works in FOLDER/apt alone, and checks the signatures of the release that it reads.
 #
 #     tools/fetch_serde.sh FOLDER [RELEASE]
 #
-# RELEASE is a release of Debian; the one that is taken where none is given has serde 1.0.217.
+# RELEASE is a release of Debian; the one that is taken where none is given has serde 1.0.217. The reader of attributes
+# that is ported, serde_derive_internals 0.30.0, is in forky.
 set -euo pipefail
 if [ $# -lt 1 ] || [ $# -gt 2 ]; then
     echo "usage: fetch_serde.sh FOLDER [RELEASE]" >&2
@@ -14,7 +15,7 @@ mkdir -p "$1"
 folder="$(cd "$1" && pwd)"
 release="${2:-trixie}"
 keys=/usr/share/keyrings/debian-archive-keyring.gpg
-crates="serde serde-core serde-derive serde-json proc-macro2 quote syn unicode-ident itoa ryu zmij memchr
+crates="serde serde-core serde-derive serde-derive-internals serde-json proc-macro2 quote syn unicode-ident itoa ryu zmij memchr
     uuid chrono num-traits autocfg regex regex-automata regex-syntax aho-corasick"
 
 mkdir -p "$folder"/apt/{state/lists/partial,cache/archives/partial,packages} "$folder/registry"

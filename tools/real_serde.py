@@ -1,7 +1,7 @@
 #!/usr/bin/env python3
 """Compiles the items that a built `typify` prints with rustc and serde, and compares what both make of values.
 
-    tools/real_serde.py PROGRAM --folder FOLDER
+    tools/real_serde.py PROGRAM --folder FOLDER [--module]
 
 tools/README.md says what it needs and what it shows.
 """
@@ -16,9 +16,11 @@ import re
 import shlex
 import subprocess
 import sys
+import threading
+import urllib.parse
 
 import looser
-from emitted import all_types, item_of, renamed_item, written
+from emitted import all_types, item_of, literal, renamed_item, type_of, written
 
 TOOLS = os.path.dirname(os.path.abspath(__file__))
 TOP = os.path.dirname(TOOLS)
@@ -29,9 +31,13 @@ LIMITS = {
     "long-tuple": "serde's traits hold of tuples of 16 places at most, and std's Hash of 12",
     "set-of-sets": "std's sets and maps have no Hash, so that neither can be an item of a set (inside an item of its own they can: "
                    "a Hash is written for it here)",
+    "more-than-std": "std's traits hold of tuples of 12 places at most",
     "rule-unknown": "the rule of a `try_from` item isn't printed, and wasn't found in the schema",
     "default-unknown": "a stated default isn't printed, and wasn't found in the schema",
 }
+
+# a function that gives a stated default: its name, and the literal of the default's text
+STATED = re.compile(r'    pub fn (d[0-9]+)<T: DeserializeOwned>\(\) -> T \{\n        serde_json::from_str\(("(?:\\.|[^"\\])*")\)', re.S)
 
 INSIDE = {  # keywords that hold schemas, by how they hold them
     "not": "one", "additionalProperties": "one", "additionalItems": "one", "propertyNames": "one", "contains": "one",
@@ -43,8 +49,10 @@ INSIDE = {  # keywords that hold schemas, by how they hold them
 # ---- the program
 
 class Program:
-    def __init__(self, words):
+    def __init__(self, words, is_whole=False):
         self.words = shlex.split(words)
+        # whether `rust` prints the modules
+        self.is_whole = is_whole
 
     def page(self, word, depth, text):
         """The status and the lines of the page."""
@@ -64,9 +72,29 @@ def verdicts_of(lines):
 TEXT = ("path", "std::string::String", ())
 
 
-def text_rule(schema):
-    rule = {"least": schema.get("minLength"), "most": schema.get("maxLength"), "all": [plain(schema["pattern"])] if "pattern" in schema else None}
-    return rule if any(part is not None for part in rule.values()) else None
+def merged_rule(parts, denied):
+    """The rule of schemas that hold together, and of those that mustn't hold, each told as schemas that hold together: each bound is the
+    strictest, each pattern is asked, and a listed value is in each list and in none of those that are denied."""
+    def all_of(keyword):
+        return [part[keyword] for part in parts if keyword in part]
+
+    rule = {"least": max(all_of("minLength"), default=None), "most": min(all_of("maxLength"), default=None)}
+    rule["all"] = sorted({plain(pattern) for pattern in all_of("pattern")}) or None
+    # a constant beside a type is left out where it is no text
+    lists = all_of("enum") + [[part["const"]] for part in parts if "const" in part and ("type" not in part or isinstance(part["const"], str))]
+    # True is 1 for Python, so that texts are compared
+    texts = [{json.dumps(value) for value in one} for one in lists]
+    if all(part is None for part in rule.values()):
+        # from a text with bounds or patterns no values are taken away
+        rule["barred"] = [value for one in denied for part in one for value in part.get("enum", [])] or None
+    rule["listed"] = [value for value in lists[0] if all(json.dumps(value) in one for one in texts)] if lists else None
+    rule = {name: part for name, part in rule.items() if part is not None}
+    return rule or None
+
+
+def is_met(rule):
+    """Whether a text or a value may meet the rule, as far as its bounds and lists tell."""
+    return rule.get("least", 0) <= rule.get("most", sys.maxsize) and rule.get("listed") != []
 
 
 # ---- cases
@@ -131,11 +159,26 @@ class Case:
         self.verdicts = verdicts_of(lines)
         status, self.texts = self.printed(text)
         self.items = [item_of(text) for text in self.texts]
+        if program.is_whole:
+            self.read_module(depth)
+            return
         if status != 0 or lines[0] != f"items {len(self.items)}" or len(self.verdicts) != len(self.values):
             raise Mixed(f"{place}: the pages of `items` and `check` don't agree")
         self.root, self.of = self.aligned()
         self.stated = self.defaults()
         self.rules = {item.name: self.rule(place) for place, item in enumerate(self.items) if "try_from" in item.metas}
+        self.limit = self.limit_of()
+
+    # The module tells the type of the root in its comment, and the stated defaults in functions.
+    def read_module(self, depth):
+        status, lines = self.program.page("rust", depth, json.dumps(self.schema, ensure_ascii=False))
+        roots = [line for line in lines if line.startswith("// root ")]
+        if status != 0 or len(self.verdicts) != len(self.values) or not roots:
+            raise Mixed(f"{self.place}: the pages of `rust` and `check` don't agree")
+        self.whole = "".join(line + "\n" for line in lines)
+        self.root = type_of(roots[0].removeprefix("// root "))
+        self.stated = {f"typify_defaults::{name}": json.loads(literal(text)) for name, text in STATED.findall(self.whole)}
+        self.rules = {}
         self.limit = self.limit_of()
 
     def printed(self, text):
@@ -205,25 +248,65 @@ class Case:
     def rule(self, place):
         """The rule of the item at a place, or None where it wasn't found."""
         schema = self.of[place]
-        if schema is None:
-            return self.rule_left()
-        if self.items[place].inner == TEXT and text_rule(schema):
-            return text_rule(schema)
-        if "enum" in schema:
-            return {"listed": schema["enum"]}
-        if isinstance(schema.get("not"), dict) and "enum" in schema["not"]:
-            return {"barred": schema["not"]["enum"]}
-        return None
+        return self.rule_left(place) if schema is None else self.rule_of(self.merged(schema))
 
-    def rule_left(self):
-        """The rule of an item whose schema isn't known: the one that no other item has, of a text or of the names of a map by patterns."""
+    def rule_of(self, parts):
+        return merged_rule(parts, [self.merged(part["not"]) for part in parts if "not" in part])
+
+    def merged(self, schema, above=()):
+        """The schemas that hold together where that one does: itself, those of `allOf`, and what it refers to."""
+        if not isinstance(schema, dict) or any(schema is one for one in above):
+            return []
+        above = (*above, schema)
+        found = [schema]
+        for part in [*schema.get("allOf", []), self.referred(schema.get("$ref"))]:
+            found += self.merged(part, above)
+        return found
+
+    def referred(self, reference):
+        """The schema that a reference names, or None."""
+        if not isinstance(reference, str) or not reference.startswith("#"):
+            return None
+        held = self.marks
+        for step in urllib.parse.unquote(reference[1:]).split("/")[1:]:
+            step = step.replace("~1", "/").replace("~0", "~")
+            held = held.get(step) if isinstance(held, dict) else None
+        return held
+
+    def rule_left(self, place):
+        """The rule of an item whose schema isn't known: of a variant by the schema of its enum, or the one that no other item has, of a
+        text or of the names of a map by patterns."""
+        branched = self.branches(place)
+        if branched is not None:
+            return branched
         known = [self.of[i] for i, item in enumerate(self.items) if "try_from" in item.metas and self.of[i] is not None]
         parts = [one for one in subschemas(self.marks) if isinstance(one, dict)]
-        rules = [text_rule(one) for one in parts if "enum" not in one and not any(one is other for other in known)]
+        rules = [self.rule_of(self.merged(one)) for one in parts if "enum" not in one and not any(one is other for other in known)]
+        rules = [rule for rule in rules if rule and not rule.keys() & {"listed", "barred"}]
         rules += [{"any": sorted(plain(pattern) for pattern in one["patternProperties"])} for one in parts
                   if isinstance(one.get("patternProperties"), dict) and not one.get("properties") and not one.get("required")]
         left = {json.dumps(rule) for rule in rules if rule}
         return json.loads(left.pop()) if len(left) == 1 else None
+
+    def branches(self, place):
+        """The rule of an item without a name of its own that is a variant of an untagged enum: that of the enum's schema with one of its
+        branches. Where each branch has another rule, there must be as many items as branches that may be met."""
+        name = self.items[place].name
+        for user, item in enumerate(self.items):
+            if item.kind != "enum" or "untagged" not in item.metas or self.of[user] is None:
+                continue
+            held = [part[1] for variant in item.parts if variant.style == "places" for part in variant.parts if part[0] == "name"]
+            if name not in held:
+                continue
+            around = self.merged(self.of[user])
+            rules = [self.rule_of(around + self.merged(branch)) for part in around for keyword in ("anyOf", "oneOf")
+                     for branch in part.get(keyword, [])]
+            rules = [rule for rule in rules if rule and is_met(rule)]
+            unknown = [item.name for i, item in enumerate(self.items) if item.name in held and self.of[i] is None and "try_from" in item.metas]
+            if rules and all(rule == rules[0] for rule in rules):
+                return rules[0]
+            return rules[unknown.index(name)] if len(rules) == len(unknown) else None
+        return None
 
     def defaults(self):
         """The stated default that each path of a default gives, where the document tells it."""
@@ -250,6 +333,8 @@ class Case:
             return "long-array"
         if any(ty[0] == "tuple" and len(ty[1]) > 16 for ty in types):
             return "long-tuple"
+        if self.program.is_whole and any(ty[0] == "tuple" and len(ty[1]) > 12 for ty in types):
+            return "more-than-std"
         for ty in self.keys():
             parts = all_types(ty)
             if any(part[0] == "tuple" and len(part[1]) > 12 for part in parts):
@@ -280,6 +365,8 @@ class Case:
     # ---- the module
 
     def module(self):
+        if self.program.is_whole:
+            return self.whole + "\n" + "\n".join(self.judge()) + "\n"
         lines = ["use super::typify_present;"]
         if self.stated:
             lines.append("mod typify_defaults {")
@@ -308,10 +395,14 @@ class Case:
                     "    }",
                     "}",
                 ]
-        lines.append("pub fn typify_judged(typify_text: &str) -> ::serde_json::Value {")
-        lines.append(f"    super::judge::<{written(self.root)}>(typify_text)")
-        lines.append("}")
-        return "\n".join(lines) + "\n"
+        return "\n".join(lines + self.judge()) + "\n"
+
+    def judge(self):
+        return [
+            "pub fn typify_judged(typify_text: &str) -> ::serde_json::Value {",
+            f"    super::judge::<{written(self.root)}>(typify_text)",
+            "}",
+        ]
 
 
 def rust_text(text):
@@ -383,7 +474,8 @@ def put(path, text):
 
 PARTS = 8
 
-PART = """#![allow(dead_code, unused_imports, non_camel_case_types, non_snake_case, uncommon_codepoints)]
+PART = """#![recursion_limit = "4096"]
+#![allow(dead_code, unused_imports, non_camel_case_types, non_snake_case, uncommon_codepoints)]
 #![allow(mixed_script_confusables, confusable_idents)]
 use real_serde::{judge, rule_admits, stated, typify_present};
 use serde_json::Value;
@@ -418,9 +510,9 @@ def write_crate(folder, modules):
     return crate
 
 
-def build(crate):
+def build(crate, jobs):
     """The paths of the programs by their numbers, and the errors of rustc by the number of the case."""
-    done = subprocess.run(["cargo", "build", "--offline", "--keep-going", "--message-format=json"], cwd=crate,
+    done = subprocess.run(["cargo", "build", "--offline", "--keep-going", "--message-format=json", f"--jobs={jobs}"], cwd=crate,
                           stdout=subprocess.PIPE, stderr=subprocess.PIPE)
     errors, programs = collections.defaultdict(list), {}
     for line in done.stdout.decode().split("\n")[:-1]:
@@ -440,13 +532,13 @@ def build(crate):
     return programs, errors
 
 
-def compiled(folder, cases):
+def compiled(folder, cases, jobs):
     """The programs, and the module of each case that compiles; the errors of the others are put into them. Cases of one text share a module."""
     first = {}
     of = {place: first.setdefault(case.module(), place) for place, case in cases.items()}
     modules = {place: text for text, place in first.items()}
     while True:
-        programs, errors = build(write_crate(folder, modules))
+        programs, errors = build(write_crate(folder, modules), jobs)
         if not errors:
             return programs, {place: module for place, module in of.items() if module in modules}
         for place, found in errors.items():
@@ -489,11 +581,13 @@ def main():
     parser.add_argument("--folder", required=True, help="the folder that tools/fetch_serde.sh filled")
     parser.add_argument("--rows", default=os.path.join(TOP, "crates", "run_cases", "stdin"))
     parser.add_argument("--cases", default=os.path.join(TOOLS, "real_serde.jsonl"))
+    parser.add_argument("--module", action="store_true", help="compile what `rust` prints in place of a module that is put together here")
     parser.add_argument("--list", action="store_true", help="print each difference by design too")
+    parser.add_argument("--jobs", type=int, default=os.cpu_count(), help="how many compilers cargo may run at once")
     words = parser.parse_args()
     folder = os.path.abspath(words.folder)
 
-    program, faults, cases, without = Program(words.program), [], {}, 0
+    program, faults, cases, without = Program(words.program, words.module), [], {}, 0
 
     def made(one):
         depth, text, place = one
@@ -511,7 +605,7 @@ def main():
             else:
                 cases[len(cases)] = case
     limits = collections.Counter(case.limit for case in cases.values() if case.limit)
-    built, ready = compiled(folder, {place: case for place, case in cases.items() if not case.limit})
+    built, ready = compiled(folder, {place: case for place, case in cases.items() if not case.limit}, words.jobs)
     for case in cases.values():
         if case.errors:
             faults.append(f"{case.place} doesn't compile: {case.errors[0]}\n  {json.dumps(case.schema, ensure_ascii=False)}")
@@ -550,5 +644,16 @@ def main():
     return 1 if faults else 0
 
 
+def with_room(run):
+    """What a function gives, with room for values and for chains of items as deep as the program takes them."""
+    sys.setrecursionlimit(10**6)
+    threading.stack_size(2**29)
+    found = []
+    thread = threading.Thread(target=lambda: found.append(run()))
+    thread.start()
+    thread.join()
+    return found[0] if found else 3
+
+
 if __name__ == "__main__":
-    sys.exit(main())
+    sys.exit(with_room(main))

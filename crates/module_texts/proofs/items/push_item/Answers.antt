@@ -1,0 +1,8 @@
+use Rattle.std.proofs.Common.{◌++◌, ◌∙◌, string_bytes}
+use Rattle.syntax_trees.specs.Item.{item_view}
+use Rattle.module_texts.specs.Items.{parts_text}
+use Rattle.module_texts.proofs.items.push_item.Goals as goal
+
+pub returns : goal.returns
+returns c =
+    c.in_ok-push_parts.ensures ∙ (λ j. string_bytes c.args.out.now ++ parts_text c.args.hashed (c.in_ok-holder.ensures j) (c.in_ok-long.ensures j) (item_view c.args.item.now))

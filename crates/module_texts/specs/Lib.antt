@@ -1,0 +1,11 @@
+pub mod Tokens
+pub mod Asked
+pub mod Fields
+pub mod Values
+pub mod Rules
+pub mod Impls
+pub mod Items
+pub mod Defaults
+pub mod Helpers
+pub mod Module
+pub mod Examples

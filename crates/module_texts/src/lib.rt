@@ -1,0 +1,18 @@
+//! Items as the text of one Rust module that compiles as it stands: with derives, the helpers that attributes name, and conversions for rules and stated
+//! defaults.
+#![tactic(auto)]
+
+mod asked;
+mod defaults;
+pub mod examples;
+mod fields;
+mod helpers;
+mod impls;
+mod items;
+mod module;
+mod rules;
+mod tokens;
+mod values;
+
+pub use asked::Asked;
+pub use module::push_module;
