@@ -1,0 +1,7 @@
+mod Behind
+mod NativeTypes
+mod OddTypes
+mod SmallNumbers
+mod SmallMembers
+mod Copies
+mod FoundNames

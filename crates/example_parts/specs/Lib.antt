@@ -1,0 +1,4 @@
+pub mod SettingView
+pub mod Places
+pub mod Names
+pub mod Examples

@@ -1,0 +1,4 @@
+pub mod Rings
+mod Nests
+pub mod AsDocument
+pub mod Plainly
