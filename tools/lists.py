@@ -28,6 +28,7 @@ def named_in(crate):
         found |= set(re.findall(r"\bRattle\.(\w+)", text))
         if not name.endswith(".antt"):
             code = "\n".join(line for line in text.split("\n") if not line.strip().startswith("//"))
+            code = re.sub(r"""'\\?"'|"(?:\\.|[^"\\])*\"""", "", code, flags=re.S)
             found |= set(re.findall(r"(?<![\w:])(\w+)::", code))
     return found
 

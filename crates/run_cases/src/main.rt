@@ -1,6 +1,6 @@
 //! Whole runs over sources and sinks in memory. Each line of standard input has three parts with tabs between them: the
-//! words, the streams, and the input. The words are those of `typify`, or `admission` with or without `--null-absent`, for
-//! the plain program. The word `examine` stands for the call of that name at depth 8. The streams are nothing where nothing disturbs the run, or one of these:
+//! words, the streams, and the input. The words are those of `typify` (`describe`, `rust` and `explain` among them, whose input is a schema as it is, `sample`, which reads nothing, `covers`, whose input is two schemas, and `lines`, in whose input `␊` stands for a line feed), or `admission` with or without `--null-absent`, for
+//! the plain program. The word `examine` stands for the call of that name at depth 8; `redescribe` and a type for the call of that name, whose input is items and values (redescribed.rt). The streams are nothing where nothing disturbs the run, or one of these:
 //! - four numbers: how many bytes the source gives at once and which of its reads fails, how many bytes the sink takes at once and which of its writes fails;
 //! - `padded` and a number: blanks stand behind the input, up to so many bytes;
 //! - `judge`, a number, a pattern and a text: the judge of texts knows that pattern alone, which that text alone has, and fails at its call of that number, from 0.
@@ -8,9 +8,20 @@
 //! The line is printed, and behind it the status and what was written.
 #![tactic(auto)]
 
+mod redescribed;
+
+use crate::redescribed::redescription;
+use covers_run::Covers;
+use describe_run::Describing;
+use explain_run::Explaining;
+use model_lines::run_lines;
+use pair_words::run_pair;
 use run_input::{input_parts, input_value};
 use run_io::{MemorySink, MemorySource, PlainSink, PlainSource, Sink, Source};
+use rust_run::RustPrinting;
+use sample_run::run_sample;
 use schema_tree::{FailingTexts, PlainTexts, Setting, Texts};
+use schema_words::run_word;
 use std::alloc::{AllocError, Global};
 use typify_run::{RegexTexts, Report, examine};
 
@@ -33,15 +44,36 @@ fn answer(alloc: Global, line: &str) -> Result<String, AllocError> {
     if words == "examine" {
         return examined(alloc, input);
     }
+    if let Some(root) = words.strip_prefix("redescribe ") {
+        return redescription(alloc, root, input);
+    }
     let called = Called::read(alloc, words)?;
+    if words.starts_with("lines") {
+        let lines = with_feeds(alloc, input)?;
+        return ran(alloc, &called, streams, lines.as_str());
+    }
+    ran(alloc, &called, streams, input)
+}
+
+// What a run over such streams gives.
+fn ran(alloc: Global, called: &Called, streams: &str, input: &str) -> Result<String, AllocError> {
     let Some((first, others)) = streams.split_once(' ') else {
-        return plain_run(alloc, &called, input);
+        return plain_run(alloc, called, input);
     };
     match first {
-        "padded" => padded_run(alloc, &called, others, input),
-        "judge" => judged_run(alloc, &called, others, input),
-        _ => streamed_run(alloc, &called, streams, input),
+        "padded" => padded_run(alloc, called, others, input),
+        "judge" => judged_run(alloc, called, others, input),
+        _ => streamed_run(alloc, called, streams, input),
     }
+}
+
+// The input of `lines`.
+fn with_feeds(alloc: Global, input: &str) -> Result<String, AllocError> {
+    let mut text = String::new(alloc);
+    for character in input.chars() {
+        text.push(if character == '␊' { '\n' } else { character })?;
+    }
+    Ok(text)
 }
 
 // What the examination of an input gives.
@@ -59,10 +91,11 @@ fn examined(alloc: Global, input: &str) -> Result<String, AllocError> {
     }
 }
 
-// The number of items, and whether each value is taken.
+// The numbers of items and of notes, and whether each value is taken.
 fn report_text(alloc: Global, report: &Report) -> Result<String, AllocError> {
     let count = report.items.len();
-    let mut text = format!(in alloc; "items {count}")?;
+    let notes = report.notes.len();
+    let mut text = format!(in alloc; "items {count} notes {notes}")?;
     for verdict in &report.verdicts {
         match verdict.taken() {
             Some(_) => text.push_str(" taken")?,
@@ -99,13 +132,34 @@ impl Called {
         texts: &mut T,
     ) -> u8 {
         match self {
-            Called::Product(words) => {
-                typify_run::run(alloc, words.as_slice(), source, sink, texts).status
-            }
+            Called::Product(words) => { product_run(alloc, words.as_slice(), source, sink, texts) }
             Called::Plain(setting) => {
                 admission_run::run(alloc, source, sink, texts, *setting).status()
             }
         }
+    }
+}
+
+// The status with which `typify` ends, which goes by the first word.
+fn product_run<S: Source, K: Sink, T: Texts>(
+    alloc: Global,
+    words: &[String],
+    source: &mut S,
+    sink: &mut K,
+    texts: &mut T,
+) -> u8 {
+    let first = match words {
+        [first, ..] => first.as_str(),
+        [] => "",
+    };
+    match first {
+        "describe" => { run_word(alloc, first, words, source, sink, texts, &Describing).status() }
+        "covers" => { run_pair(alloc, first, words, source, sink, texts, &Covers).status() }
+        "rust" => { run_word(alloc, first, words, source, sink, texts, &RustPrinting).status() }
+        "explain" => { run_word(alloc, first, words, source, sink, texts, &Explaining).status() }
+        "lines" => run_lines(alloc, words, source, sink, texts).status,
+        "sample" => run_sample(alloc, words, sink).status,
+        _ => typify_run::run(alloc, words, source, sink, texts).status,
     }
 }
 

@@ -1,13 +1,29 @@
-//! The program `typify`: one JSON object with a schema and a list of values on standard input, the page on standard
-//! output, and the status of the run as the process's.
+//! The program `typify`: an input on standard input, which is one JSON object with a schema and a list of values, or for
+//! `describe`, `rust` and `explain` a schema as it is, for `covers` one object with two schemas, and for `lines` a schema and then values, one a line; the page on standard output, and the status of the run as the process's.
 #![tactic(auto)]
 
+use covers_run::Covers;
+use describe_run::Describing;
+use explain_run::Explaining;
+use model_lines::run_lines;
+use pair_words::run_pair;
+use rust_run::RustPrinting;
+use sample_run::run_sample;
+use schema_tree::Texts;
+use schema_words::{Answering, run_word};
+use std::alloc::Global;
 use std::env;
 use std::process::ExitCode;
-use typify_run::{RegexTexts, StdSink, StdSource, run};
+use typify_run::{RegexTexts, Sink, Source, StdSink, StdSource, run};
 
 const HELP: &str = "typify check DEPTH [--null-absent]
 typify items DEPTH [--null-absent]
+typify describe DEPTH [--null-absent]
+typify covers DEPTH [--null-absent]
+typify rust DEPTH [--null-absent]
+typify explain DEPTH [--null-absent]
+typify lines DEPTH [--null-absent]
+typify sample N
 
 Reads one JSON object with exactly the members `schema`, a JSON Schema, and `values`, a list, from standard input
 (at most 16,777,216 bytes). `check` prints the number of items that the schema compiles to, a line for each note, and a
@@ -19,16 +35,151 @@ A note, `note WAY KIND PATH`, says that the items don't take exactly the values 
 is Widened where they take more, Narrowed where they take fewer; KIND says why, PATH is the place in the schema. Where
 `check` prints no note they take exactly those, among values whose numbers are i64.
 
+`describe` reads a schema as it is, bare, and prints what its items take as a schema; `typify describe --help` says more.
+`covers` reads one object with the members `old` and `new`, two schemas, and says whether the items of the new one read
+what those of the old one write; `typify covers --help` says more.
+`rust` reads a schema as it is, too, and prints its items as one Rust module; `typify rust --help` says more.
+`explain` reads a schema as it is and says what its fault or its notes mean, and what to change; `typify explain --help`
+says more.
+`lines` reads a schema in the first line and a value in each further one, and answers each as it comes, in the memory of
+one line; `typify lines --help` says more. `sample` reads nothing: it examines a schema of N definitions, from 1 to 999,
+and N values that it makes itself, and prints how many items, notes and taken values there are.
+
 Status: 0 a page was printed, 1 one line names a fault, 2 other words, 3 the input is too long or isn't that object,
-4 reading failed, 5 writing failed, 6 memory ran out.";
+4 reading failed, 5 writing failed, 6 memory ran out, 7 more lines came than are read, 8 there is no description, or
+the new items don't read what the old ones write.";
+
+const DESCRIBE_HELP: &str = "typify describe DEPTH [--null-absent]
+
+Reads a JSON Schema as it is from standard input (at most 16,777,216 bytes), compiles it as `check` does, and prints the
+schema of exactly the values with i64 numbers that the items take: one JSON text, indented. DEPTH and --null-absent are
+those of `check`. Where `check` prints no note, the schema that is printed, read without --null-absent, admits exactly
+those values with i64 numbers that the one that was read admits, under --null-absent where that was said. It compiles
+without a note at a DEPTH of its number of schemas, as long as it is nested at most 127 deep.
+
+    $ echo '{\"type\":\"array\",\"items\":{\"type\":\"boolean\"}}' | typify describe 64
+    {
+      \"items\": {
+        \"type\": \"boolean\"
+      },
+      \"type\": \"array\"
+    }
+
+Where the items with the root are no plain table the line `not plain NAME` names the first item that keeps them from it,
+and `not plain` says that the root alone does. Not plain are sets, patterns, listed values that are forbidden or allowed,
+whole numbers from 1 on, defaults that are stated, null and options but as a property's type, choices by a tag that are
+open, and choices without a tag of which two variants take values of one kind.
+
+Status: 0 a schema was printed, 1 one line names a fault, 2 other words, 3 the input is too long or isn't JSON, 4 reading
+failed, 5 writing failed, 6 memory ran out, 8 the items have no description.";
+
+const COVERS_HELP: &str = "typify covers DEPTH [--null-absent]
+
+Reads one JSON object with exactly the members `old` and `new`, two JSON Schemas, from standard input (at most 16,777,216
+bytes), compiles both as `check` does, and prints for each the number of items and a line for each note, then `covered`
+or `broken RULE WAY OLD NEW`, and `end`. DEPTH and --null-absent are those of `check`, for both.
+
+    $ echo '{\"old\":{\"type\":\"integer\",\"format\":\"uint8\"},\"new\":{\"type\":\"integer\",\"format\":\"int8\"}}' | typify covers 64
+    old items 0
+    new items 0
+    broken Range \"#\" \"u8\" \"i8\"
+    end
+
+`covered` promises that the new items read each value that the old ones read, as the old ones write it: with stated
+defaults filled in, and under the names that are written. Where besides `old note Narrowed` and `new note Widened` don't
+stand in the page, what a value settles to that the old schema admits, the new one admits, among values whose numbers are
+i64.
+
+`broken` names the first pair of types that breaks a rule, and the way to it as a place in old values, each as a JSON
+string; the contents of a variant are written `ITEM::VARIANT`. RULE is Kind, Range, Rule, Length, Tag, Variant, Missing, Unknown, Twice or Rest; docs/EVOLUTION.md has
+the table. It doesn't say that some value shows the difference.
+
+Status: 0 covered, 1 one line names a fault behind `old` or `new`, 2 other words, 3 the input is too long or isn't that
+object, 4 reading failed, 5 writing failed, 6 memory ran out, 8 broken.";
+
+const RUST_HELP: &str = "typify rust DEPTH [--null-absent]
+
+Reads a JSON Schema as it is from standard input (at most 16,777,216 bytes), compiles it as `check` does, and prints the
+items as one Rust module, which compiles as it stands. DEPTH and --null-absent are those of `check`.
+
+    $ echo '{\"title\":\"Point\",\"type\":\"object\",\"required\":[\"x\"],\"properties\":{\"x\":{\"type\":\"integer\"}}}' | typify rust 64 > point.rs
+
+The module begins with a comment: the version, the number of items, a line for each note, and the type that stands for the
+schema. Then come helpers that attributes name, a function for each default that is stated, and each item with `pub`,
+derives and serde's attributes; a newtype with a rule has a `TryFrom` that asks it. It stands on serde (with derive) and
+serde_json, and, where a type or a rule names them, on uuid and chrono (with serde) and regex. docs/USING.md goes through it.
+
+Std and serde have no traits for tuples of more than 12 places and arrays of more than 32: a comment says where one
+stands, and its traits are yours to write.
+
+Status: 0 a module was printed, 1 one line names a fault, 2 other words, 3 the input is too long or isn't JSON, 4 reading
+failed, 5 writing failed, 6 memory ran out.";
+
+const EXPLAIN_HELP: &str = "typify explain DEPTH [--null-absent]
+
+Reads a JSON Schema as it is from standard input (at most 16,777,216 bytes), compiles it as `check` does, and says what
+comes of it. DEPTH and --null-absent are those of `check`.
+
+    $ echo '{\"type\":\"array\",\"items\":true,\"uniqueItems\":true,\"minContains\":1}' | typify explain 64
+    compiles
+    items 0
+    note Widened array \"#\"
+    means A list's sizes, and that a set's items differ, are left out: a set drops repeated items when it is read.
+    passed-over \"minContains\" \"#\"
+    end
+
+Where it compiles there are the number of items, and the line of each note with a line `means`. Where it doesn't there is
+the line of the first fault, as `check` prints it, then lines for what it carries (`keyword`, `reference`, `step`, `value`,
+`places` or `kind`), a line `rule` and a line `change`. Behind either a line `passed-over KEYWORD PLACE` names each keyword
+of the schema that isn't read though it binds values or names schemas in some draft of JSON Schema. docs/FAULTS.md and
+docs/NOTES.md say more of each fault and each note.
+
+Status: 0 it compiles, 1 it has a fault, 2 other words, 3 the input is too long or isn't JSON, 4 reading failed, 5 writing
+failed, 6 memory ran out.";
+
+const LINES_HELP: &str = "typify lines DEPTH [--null-absent]
+
+Reads lines from standard input: the first is a JSON Schema, each further one a JSON value, at most 1,048,576 bytes each.
+It prints the number of items and a line for each note, as `check` does, then an answer to each value as it comes, in the
+memory of one line, and `end`. DEPTH and --null-absent are those of `check`.
+
+    $ printf '%s\\n' '{\"type\":\"integer\",\"format\":\"uint8\"}' 5 300 x | typify lines 64
+    items 0
+    line 0 taken 5
+    line 1 refused \"#\"
+    line 2 not-json
+    end
+
+An answer is `taken` with the value written back, `refused` with the place, `not-json`, `long` for a line of more bytes,
+or `number` with the place of a number that isn't an i64.
+
+Status: 0 all lines were answered, 1 a line names a fault, 2 other words, 3 the first line is missing, too long or isn't
+JSON, 4 reading failed, 5 writing failed, 6 memory ran out, 7 more than 4,294,967,296 bytes came.";
 
 const VERSION: &str = "typify 0.8.0";
 
+/// Whether the word reads a schema as it is.
+fn reads_schema(word: &str) -> bool {
+    match word {
+        "describe" | "rust" | "explain" => true,
+        _ => false,
+    }
+}
+
 /// One line for standard error where standard output got no whole page: what the status may come of, and where to look.
-fn hint(status: u8) -> Option<&'static str> {
+fn hint(word: &str, status: u8) -> Option<&'static str> {
     match status {
         2 => Some(
-            "typify: there are other words than `check DEPTH [--null-absent]` and `items DEPTH [--null-absent]`, where DEPTH is from 1 to 512; `typify --help` says more",
+            "typify: there are other words than `check DEPTH [--null-absent]`, `items DEPTH [--null-absent]`, `describe DEPTH [--null-absent]`, `covers DEPTH [--null-absent]`, `rust DEPTH [--null-absent]`, `explain DEPTH [--null-absent]`, `lines DEPTH [--null-absent]` and `sample N`, where DEPTH is from 1 to 512 and N from 1 to 999; `typify --help` says more",
+        ),
+        3 if reads_schema(word) => Some(
+            "typify: the input isn't one JSON text: it may end early, begin with a byte order mark, be nested more than 127 deep, or be longer than 16,777,216 bytes",
+        ),
+        3 if word == "covers" => Some(
+            "typify: the input isn't one JSON object with exactly the members `old` and `new`: it may be a bare schema, lack a member or have another, end early, begin with a byte order mark, be nested more than 127 deep, or be longer than 16,777,216 bytes",
+        ),
+        3 if word == "lines" => Some(
+            "typify: the first line isn't one JSON text: there may be none, it may be a part of one, begin with a byte order mark, be nested more than 127 deep, or be longer than 1,048,576 bytes",
         ),
         3 => Some(
             "typify: the input isn't one JSON object with exactly the members `schema` and `values`, a list: it may be a bare schema, lack a member or have another, end early, begin with a byte order mark, be nested more than 127 deep, or be longer than 16,777,216 bytes",
@@ -38,8 +189,48 @@ fn hint(status: u8) -> Option<&'static str> {
         6 => Some(
             "typify: memory ran out, or more than 300 schemas stand in one another, or a value or a default is more than 1,000 levels deep",
         ),
+        7 => Some("typify: more than 4,294,967,296 bytes came"),
         _ => None,
     }
+}
+
+/// The text that a word asks for, where it asks for one that is written here.
+fn told(word: &str) -> Option<&'static str> {
+    match word {
+        "--help" | "-h" | "help" => Some(HELP),
+        "--version" | "-V" => Some(VERSION),
+        _ => None,
+    }
+}
+
+/// The text that a word and what stands behind it ask for.
+fn told_of(word: &str, about: &str) -> Option<&'static str> {
+    match word {
+        "describe" if about == "--help" || about == "-h" => Some(DESCRIBE_HELP),
+        "help" if about == "describe" => Some(DESCRIBE_HELP),
+        "covers" if about == "--help" || about == "-h" => Some(COVERS_HELP),
+        "help" if about == "covers" => Some(COVERS_HELP),
+        "rust" if about == "--help" || about == "-h" => Some(RUST_HELP),
+        "help" if about == "rust" => Some(RUST_HELP),
+        "explain" if about == "--help" || about == "-h" => Some(EXPLAIN_HELP),
+        "help" if about == "explain" => Some(EXPLAIN_HELP),
+        "lines" if about == "--help" || about == "-h" => Some(LINES_HELP),
+        "help" if about == "lines" => Some(LINES_HELP),
+        _ => None,
+    }
+}
+
+/// The status of a word that reads a schema as it is.
+fn answered<S: Source, K: Sink, T: Texts, A: Answering>(
+    alloc: Global,
+    word: &str,
+    words: &[String],
+    source: &mut S,
+    sink: &mut K,
+    texts: &mut T,
+    answering: &A,
+) -> u8 {
+    run_word(alloc, word, words, source, sink, texts, answering).status()
 }
 
 fn main(rt: HostRuntime) -> ExitCode {
@@ -52,25 +243,72 @@ fn main(rt: HostRuntime) -> ExitCode {
     let Ok(words) = words else {
         return ExitCode::from(6);
     };
-    if let [word] = words.as_slice() {
-        let text = match word.as_str() {
-            "--help" | "-h" | "help" => Some(HELP),
-            "--version" | "-V" => Some(VERSION),
-            _ => None,
+    let words = words.as_slice();
+    let text = match words {
+        [word] => told(word),
+        [word, about] => told_of(word, about),
+        _ => None,
+    };
+    if let Some(text) = text {
+        return match println!(rt; "{text}") {
+            Ok(()) => ExitCode::SUCCESS,
+            Err(_) => ExitCode::from(5),
         };
-        if let Some(text) = text {
-            return match println!(rt; "{text}") {
-                Ok(()) => ExitCode::SUCCESS,
-                Err(_) => ExitCode::from(5),
-            };
-        }
     }
+    let first = match words {
+        [word, ..] => word.as_str(),
+        [] => "",
+    };
     let mut source = StdSource::new(&rt);
     let mut sink = StdSink::new(&rt);
     let mut texts = RegexTexts::new(alloc);
-    let outcome = run(alloc, words.as_slice(), &mut source, &mut sink, &mut texts);
-    if let Some(line) = hint(outcome.status) {
+    let status = match first {
+        "describe" => answered(
+            alloc,
+            first,
+            words,
+            &mut source,
+            &mut sink,
+            &mut texts,
+            &Describing,
+        ),
+        "rust" => answered(
+            alloc,
+            first,
+            words,
+            &mut source,
+            &mut sink,
+            &mut texts,
+            &RustPrinting,
+        ),
+        "explain" => answered(
+            alloc,
+            first,
+            words,
+            &mut source,
+            &mut sink,
+            &mut texts,
+            &Explaining,
+        ),
+        "covers" => {
+            let covers = Covers;
+            run_pair(
+                alloc,
+                first,
+                words,
+                &mut source,
+                &mut sink,
+                &mut texts,
+                &covers,
+            )
+            .status()
+        }
+        "lines" => run_lines(alloc, words, &mut source, &mut sink, &mut texts).status,
+        "sample" => run_sample(alloc, words, &mut sink).status,
+        _ => run(alloc, words, &mut source, &mut sink, &mut texts).status,
+    };
+    if let Some(line) = hint(first, status) {
         let _ = eprintln!(rt; "{line}");
     }
-    ExitCode::from(outcome.status)
+    ExitCode::from(status)
 }
