@@ -1,3 +1,4 @@
+mod Again
 pub mod Lines
 pub mod Verdicts
 pub mod Numbers

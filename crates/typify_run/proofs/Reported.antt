@@ -8,6 +8,7 @@ use Rattle.schema_defs.specs.declared.Setting.{Setting}
 use Rattle.schema_defs.specs.Texts.{Relations, IsLawful}
 use Rattle.schema_defs.specs.Schema.{Document}
 use Rattle.attr_defs.specs.Texts.{lexed}
+use Rattle.container_defs.specs.Forms.{is_known, names_of, are_inside}
 use Rattle.container_defs.specs.Model.{diagnostics_of}
 use Rattle.type_spellings.specs.Types.{type_of}
 use Rattle.model_defs.specs.Model.{ContainerModel}
@@ -23,7 +24,7 @@ use Rattle.emit_defs.specs.Formed.{IsEmittable}
 use Rattle.emit_defs.proofs.Acyclic.{acyclic}
 use Rattle.emit_texts.proofs.Functions.{functions_are_read}
 use Rattle.emit_texts.proofs.Types.{types_are_read_again}
-use Rattle.emit_laws.proofs.Assembled.{items_are_read, nothing_is_told}
+use Rattle.emit_laws.proofs.Assembled.{items_are_inside, items_are_read, nothing_is_told, roots_are_read, trees_are_roots}
 use Rattle.convert_defs.specs.Row.{Way, narrowed, widened}
 use Rattle.convert_defs.specs.Laws.{Keeps, same_way}
 use Rattle.convert_walks.specs.Told.{Note, notes_of}
@@ -162,4 +163,14 @@ module _ (r : Relations) (d : Document) (depth : ℕ) (values : List Data) (repo
       ends h.sound.numbers i h.verdicts
 
   pub can_judge : CanJudge r report
-  can_judge = record { sound = h.sound; ends = ends; alike = λ how. same_models how ∙ sym (same_models as_it_stands) }
+  can_judge = record {
+    sound = h.sound;
+    ends = ends;
+    alike = λ how. same_models how ∙ sym (same_models as_it_stands);
+    inside = λ how.
+        subst (λ (k : Emission). are_inside lexed how.variant_name how.field_name how.private how.derive k.conversions k.items ≡ true) (sym h.emission)
+        (items_are_inside functions_are_read types_are_read_again how.variant_name how.field_name how.private how.derive plan emittable (root_of plan));
+    known =
+        subst (λ (k : Emission). is_known (names_of k.items) (type_of k.root) ≡ true) (sym h.emission)
+        (roots_are_read functions_are_read types_are_read_again plan emittable (root_of plan) (trees_are_roots plan emittable).0).0;
+  }

@@ -3,6 +3,8 @@ use Rattle.std.specs.Prelude.{◌≡◌, ◌&&◌, ◌⊎◌, ℕ, List, [], ◌
 use Rattle.serde_json.specs.Data.{Data}
 use Rattle.json_value.specs.Value.{Value}
 use Rattle.model_defs.specs.Reach.{NoneReachesItself}
+use Rattle.attr_defs.specs.Texts.{lexed}
+use Rattle.container_defs.specs.Forms.{is_known, names_of, are_inside}
 use Rattle.schema_defs.specs.declared.Setting.{Setting}
 use Rattle.schema_defs.specs.Texts.{Relations}
 use Rattle.schema_defs.specs.Schema.{Document}
@@ -83,9 +85,11 @@ pub record IsEmission (setting : Setting) (r : Relations) (depth : ℕ) (schema 
   pub faultless : faults_of r document depth most_levels ≡ []
   pub read : unread_in_document r document depth most_levels ≡ []
 
--- Further values can be judged by the report's items: the stated defaults are sound, no item reaches itself by value, and however the items are read, their
--- containers are the same.
+-- A report's items and its table may be handed on: the stated defaults are sound, and no item reaches itself by value; however the items are read, their containers are
+-- the same, and they are within the forms of the reader; the root's type is built of types that are known and of items.
 pub record CanJudge (r : Relations) (report : Report) : Type 0 where
   pub sound : AreSound (read_of as_it_stands (items_of report)) (conversions_view report.conversions) r
   pub ends : NoneReachesItself (read_of as_it_stands (items_of report))
   pub alike : (how : Deriving) → models_of how report ≡ read_of as_it_stands (items_of report)
+  pub inside : (how : Deriving) → are_inside lexed how.variant_name how.field_name how.private how.derive (conversions_view report.conversions) (items_of report) ≡ true
+  pub known : is_known (names_of (items_of report)) (root_of report) ≡ true

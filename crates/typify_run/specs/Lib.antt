@@ -3,6 +3,7 @@ pub mod Call
 pub mod Verdicts
 pub mod Page
 pub mod Headline
+pub mod Laws
 pub mod Examine
 pub mod Outcome
 pub mod PlainInputs

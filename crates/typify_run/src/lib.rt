@@ -3,6 +3,7 @@
 
 mod examination;
 mod judging;
+pub mod laws;
 mod outcome;
 mod report;
 mod top;
