@@ -1,2 +1,4 @@
 mod Counted
 mod Told
+pub mod Again
+pub mod Agree

@@ -6,7 +6,7 @@ use Rattle.json_value.specs.View.{value_of}
 use Rattle.syntax_trees.specs.Item.{ItemD}
 use Rattle.schema_defs.specs.Location.{Location}
 use Rattle.schema_defs.specs.declared.Setting.TheVariants.{Strict}
-use Rattle.schema_defs.specs.Texts.{Relations}
+use Rattle.schema_defs.specs.Texts.{Relations, IsLawful}
 use Rattle.schema_defs.specs.Schema.{Document}
 use Rattle.schema_defs.specs.Admits.{admits}
 use Rattle.model_defs.specs.Types.{TypeModel}
@@ -20,9 +20,10 @@ use Rattle.typify_run.specs.Examine.{as_it_stands}
 use Rattle.typify_run.specs.Headline.{IsReportOf, AreJudged, report_reads, report_settles, report_refuses}
 use Rattle.typify_run.specs.declared.report.Report.{Report}
 use Rattle.model_redescribe.specs.Laws.{UnnotedAreDescribed}
-use Rattle.model_redescribe.specs.Redescribed.{AreToldBy, IsPlainly, IsExamined, IsRedescribed, IsUnexamined, IsUnredescribed}
+use Rattle.model_redescribe.specs.Redescribed.{AreToldBy, ReadsAlike, IsPlainly, IsExamined, IsRedescribed, IsUnexamined, IsUnredescribed}
 use Rattle.model_redescribe.specs.declared.errors.RedescribeError.{RedescribeError}
 use Rattle.model_redescribe.specs.declared.errors.RedescribeError.TheVariants.{Describe, Examine}
+use Rattle.model_redescribe.proofs.Again.{described_items}
 use Rattle.model_redescribe.proofs.Counted.{same_document}
 
 -- a verdict by one test says what another one says of small values, where both agree there
@@ -42,12 +43,12 @@ module _ (k : ConversionsD) (is : List ItemD) (root : TypeModel) (v : Value) (de
   redescribed same r values report e =
       let unnoted = e.1 plainly in
       let rep = e.0 in
+      let alike : IsLawful r → ReadsAlike r report (reads (models_in is) k r root) = λ lawful. described_items k is root v desc r values report lawful rep unnoted in
       record {
         examined = subst (λ x. IsReportOf Strict r x values report) same rep;
         unnoted = unnoted;
-        verdicts = λ lawful. told_by (report_reads r report as_it_stands) (reads (models_in is) k r root) (report_settles r report as_it_stands) (report_refuses r report as_it_stands)
-            (λ w small.
-            rep.exact lawful unnoted as_it_stands w small ∙ ap (λ d. admits r d w d.root) (same_document v rep.document desc.document rep.is_read desc.read.read) ∙ desc.exact r w small)
+        alike = alike;
+        verdicts = λ lawful. told_by (report_reads r report as_it_stands) (reads (models_in is) k r root) (report_settles r report as_it_stands) (report_refuses r report as_it_stands) (alike lawful as_it_stands)
             values (map verdict_view report.verdicts.items) (rep.verdicts as_it_stands);
       }
 

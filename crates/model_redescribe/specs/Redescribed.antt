@@ -21,7 +21,7 @@ use Rattle.describe_defs.specs.Written.{description_value}
 use Rattle.derive_model.specs.VerdictView.{VerdictD, taken, refused, verdict_view}
 use Rattle.model_describe.specs.Described.{models_in, IsPlainItems, IsRefused}
 use Rattle.model_describe.specs.declared.errors.DescribeError.TheVariants.{Memory, NotPlain}
-use Rattle.typify_run.specs.Headline.{IsReportOf}
+use Rattle.typify_run.specs.Headline.{IsReportOf, Deriving, report_reads}
 use Rattle.typify_run.specs.declared.report.Report.{Report}
 use Rattle.model_redescribe.specs.declared.errors.RedescribeError.{RedescribeError}
 use Rattle.model_redescribe.specs.declared.errors.RedescribeError.TheVariants.{Describe, Examine}
@@ -40,10 +40,18 @@ AreToldBy reads (d ∷ ds) (v ∷ vs) = IsToldBy reads d v × AreToldBy reads ds
 AreToldBy reads [] (v ∷ vs) = ⊥
 AreToldBy reads (d ∷ ds) [] = ⊥
 
--- the report is one of what is written for the items, as `describe` writes it; no note is left, and by lawful texts each verdict says whether the items that were handed in read the value
+-- ---- reports
+
+-- the containers that the report's items are read back as, however they are read, read exactly the small values that a test says
+abbrev pub ReadsAlike : Relations → Report → (Value → Bool) → Type 0
+ReadsAlike r report reads = (how : Deriving) (v : Value) → IsSmall v → report_reads r report how v ≡ reads v
+
+-- The report is one of what is written for the items, as `describe` writes it, and no note is left. By lawful texts its items, read back, read exactly the small values that
+-- the items that were handed in read, listed or not, and each verdict says whether these read the value.
 pub record IsRedescribed (conversions : ConversionsD) (is : List ItemD) (root : TypeModel) (r : Relations) (values : List Data) (report : Report) : Type 0 where
   pub examined : IsReportOf Strict r (description_value (models_in is) conversions root) values report
   pub unnoted : report.notes.items ≡ []
+  pub alike : IsLawful r → ReadsAlike r report (reads (models_in is) conversions r root)
   pub verdicts : IsLawful r → AreToldBy (reads (models_in is) conversions r root) values (map verdict_view report.verdicts.items)
 
 -- ---- refusals

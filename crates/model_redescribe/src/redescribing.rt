@@ -71,9 +71,9 @@ fn examined<T: Texts>(
 }
 
 /// The items described, and the description examined at its own count of schemas, with a verdict for each value. Of a plain
-/// table there is no note, and each verdict on a small value says whether the table that was handed in reads it. Refused
-/// are items with a root that have no description, by the causes of `describe`; a number of a value that isn't an i64; a
-/// failure of the judge of texts; and want of memory.
+/// table there is no note, the items of the report read exactly the small values that the table which was handed in reads,
+/// and each verdict on a small value says whether it does. Refused are items with a root that have no description, by the
+/// causes of `describe`; a number of a value that isn't an i64; a failure of the judge of texts; and want of memory.
 #[tactic(auto, using(crate::proofs::Told::unredescribed))]
 pub fn redescribe<T: Texts>(
     alloc: Global,
