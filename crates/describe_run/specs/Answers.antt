@@ -1,6 +1,5 @@
 -- What `describe` answers of a report.
-use Rattle.std.specs.Prelude.{◌≡◌, ℕ, List, ◌++◌, codes, Option, Some, None, option_map, option_and_then}
-use Rattle.std.specs.List.{slice_get}
+use Rattle.std.specs.Prelude.{◌≡◌, ℕ, List, codes, Option}
 use Rattle.serde_json.specs.Data.{Data}
 use Rattle.json_value.specs.View.{value_of}
 use Rattle.syntax_trees.specs.Item.{ItemD}
@@ -12,16 +11,12 @@ use Rattle.describe_defs.specs.Written.{description_value}
 use Rattle.typify_run.specs.Headline.{items_of, root_of}
 use Rattle.typify_run.specs.declared.report.Report.{Report}
 use Rattle.value_texts.specs.Texts.{IsTextOf}
+use Rattle.item_lines.specs.Lines.{item_line}
 use Rattle.schema_words.specs.Said.{Said, page, no}
 
--- `not plain`, and a name where there is one
-abbrev pub named : Option (List ℕ) → List ℕ
-named None = codes "not plain\n"
-named (Some n) = codes "not plain " ++ n ++ codes "\n"
-
--- with the name of the item at a place
+-- `not plain`, and the name of the item at a place, where there is one
 abbrev pub no_line : List ItemD → Option ℕ → List ℕ
-no_line is o = named (option_and_then (λ i. option_map (λ (d : ItemD). d.name.text) (slice_get is i)) o)
+no_line is o = item_line (codes "not plain") is o
 
 -- the items with the root's type are a plain table, and the value describes them
 pub record IsDescribedBy (r : Report) (value : Data) : Type 0 where

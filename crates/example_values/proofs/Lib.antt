@@ -1,0 +1,14 @@
+pub mod Numbers
+pub mod Backwards
+pub mod KnownRounds
+pub mod Settled
+pub mod FirstReady
+pub mod ShapeViews
+pub mod Firsts
+pub mod OfTypes
+pub mod Lists
+pub mod Members
+pub mod Wrapping
+pub mod Items
+pub mod Answered
+pub mod Branches

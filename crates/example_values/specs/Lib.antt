@@ -1,0 +1,9 @@
+pub mod Fewest
+pub mod Known
+pub mod Ready
+pub mod Chosen
+pub mod Made
+pub mod Leaves
+pub mod Shapes
+pub mod Pieces
+pub mod Causes

@@ -1,0 +1,6 @@
+//! Lines that name an item.
+#![tactic(auto)]
+
+mod line;
+
+pub use line::item_line;
