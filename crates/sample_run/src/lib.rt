@@ -7,3 +7,4 @@ mod top;
 mod words;
 
 pub use top::run_sample;
+pub use words::sample_of_words;

@@ -4,7 +4,7 @@ ghost use Rattle.typify_run.specs.Words.{is_digit as is_digit_of, is_leading as 
 ghost use Rattle.sample_run.specs.Words.{count_of as count_read, sample_said};
 
 /// The number that `sample N` says, from 1 to 999 without sign or leading zero; nothing for any other words.
-pub(crate) fn sample_of_words(words: &[String]) -> Option<u32>
+pub fn sample_of_words(words: &[String]) -> Option<u32>
     ensures exact { result ≡ sample_said (map string_bytes words.now) }
     ensures within { IfSome result (λ n. (1 ≤ n) × (n ≤ 999)) }
 {
