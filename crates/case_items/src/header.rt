@@ -56,15 +56,29 @@ pub(crate) fn predicates_of(
     }
 }
 
-/// What stands between commas; a last part without tokens is none.
+// How many angle brackets are open behind the token, by how many are before it.
+fn depth_behind(tree: &TokenTree, before: usize) -> usize {
+    match tree {
+        TokenTree::Punct(punct) => match punct.ch {
+            '<' => before.saturating_add(1),
+            '>' => before.saturating_sub(1),
+            _ => before,
+        },
+        _ => before,
+    }
+}
+
+/// What stands between commas that no angle bracket is open before; a last part without tokens is none.
 pub(crate) fn parts_of(
     alloc: Global,
     trees: &[TokenTree],
 ) -> Result<Vec<&[TokenTree]>, ParseFault> {
     let mut parts = Vec::new(alloc);
     let mut start = 0;
+    let mut depth = 0;
     for (index, tree) in trees.iter().enumerate() {
-        if crate::meta::is_mark(tree, ',') {
+        depth = depth_behind(tree, depth);
+        if depth == 0 && crate::meta::is_mark(tree, ',') {
             parts.push(&trees[start..index])?;
             start = index + 1;
         }

@@ -1,4 +1,5 @@
-//! Items from their tokens, for programs that read cases. In types and parameters no comma stands outside of groups.
+//! Items from their tokens, for programs that read cases. In types no comma stands outside of groups and angle brackets, and in parameters
+//! none outside of groups.
 #![tactic(auto)]
 
 mod header;

@@ -2,6 +2,7 @@
 //! `## containers` what an item is read as (reading.rt), of `## pieces` the tokens of a piece of an emitted item (pieces.rt).
 #![tactic(auto)]
 
+mod covering;
 mod modules;
 mod numbers;
 mod pieces;

@@ -10,21 +10,70 @@ use serde_json::Value;
 use std::alloc::{AllocError, Global};
 use std::fmt::Write;
 
+// What stands before the first colon, and what behind it.
+fn cut(text: &str) -> (&str, &str) {
+    match text.split_once(":") {
+        Some((before, behind)) => (before, behind),
+        None => (text, ""),
+    }
+}
+
+fn size_of(text: &str) -> Option<u32> {
+    match text.parse::<u32>() {
+        Ok(size) => Some(size),
+        Err(_) => None,
+    }
+}
+
+// The texts between commas.
+fn texts_of(alloc: Global, text: &str) -> Result<Vec<String>, AllocError> {
+    let mut texts = Vec::new(alloc);
+    for part in text.split(',') {
+        if !part.is_empty() {
+            texts.push(String::from_str(alloc, part)?)?;
+        }
+    }
+    Ok(texts)
+}
+
+// The values between commas.
+fn values_of(alloc: Global, text: &str) -> Result<Vec<Value>, ParseFault> {
+    let mut values = Vec::new(alloc);
+    for part in text.split(',') {
+        if !part.is_empty() {
+            let Ok(value) = Value::from_str(alloc, part) else {
+                return Err(no_case());
+            };
+            values.push(value)?;
+        }
+    }
+    Ok(values)
+}
+
+fn text_rule(alloc: Global, told: &str) -> Result<Rule, AllocError> {
+    let (least, told) = cut(told);
+    let (most, told) = cut(told);
+    let (all, any) = cut(told);
+    Ok(Rule::Text {
+        least: size_of(least),
+        most: size_of(most),
+        all: texts_of(alloc, all)?,
+        any: texts_of(alloc, any)?,
+    })
+}
+
 fn rule_of(alloc: Global, word: &str) -> Result<Rule, ParseFault> {
-    match word {
-        "text" => Ok(Rule::Text {
-            least: None,
-            most: None,
-            all: Vec::new(alloc),
-            any: Vec::new(alloc),
-        }),
-        "allow" => Ok(Rule::Allow(Vec::new(alloc))),
-        "deny" => Ok(Rule::Deny(Vec::new(alloc))),
+    let (kind, told) = cut(word);
+    match kind {
+        "text" => Ok(text_rule(alloc, told)?),
+        "allow" => Ok(Rule::Allow(values_of(alloc, told)?)),
+        "deny" => Ok(Rule::Deny(values_of(alloc, told)?)),
         _ => Err(no_case()),
     }
 }
 
-fn conversions_of(alloc: Global, words: &str) -> Result<Conversions, ParseFault> {
+/// Rules, as `S=text`, and a `d` for each stated default, with spaces between.
+pub(crate) fn conversions_of(alloc: Global, words: &str) -> Result<Conversions, ParseFault> {
     let mut conversions = Conversions::new(alloc);
     for word in words.split(' ') {
         match word.split_once("=") {
@@ -42,7 +91,8 @@ fn conversions_of(alloc: Global, words: &str) -> Result<Conversions, ParseFault>
     Ok(conversions)
 }
 
-fn items_of(alloc: Global, text: &str) -> Result<Vec<DeriveInput>, ParseFault> {
+/// Items, with ` ;; ` between them.
+pub(crate) fn items_of(alloc: Global, text: &str) -> Result<Vec<DeriveInput>, ParseFault> {
     let mut items = Vec::new(alloc);
     for part in text.split(" ;; ") {
         items.push(placed_item(alloc, part)?)?;

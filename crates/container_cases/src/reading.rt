@@ -3,14 +3,20 @@
 //!
 //! A line has two columns with ` | ` between them. The first is `ser` or `de`, for a derive, and behind it a renamer: `marks`
 //! puts `v_` before a variant's name and `f_` before a field's, and `zed` answers `z`. The second is the item as Rust writes it.
-//! In types and parameters no comma stands outside of groups.
+//! In types no comma stands outside of groups and angle brackets, and in parameters none outside of groups.
 //!
 //! A line whose first column begins with `module` has items in the second, with ` ;; ` between them, and types in a third. Behind
-//! `module` stand rules, as `S=text`, and a `d` for each stated default. Printed are `module` and whether each type is known, or
-//! what is told of the items, or the number of the first item that leaves the forms of the reader of values.
+//! `module` stand rules, as `S=allow:1,2`, `S=deny:1` and `S=text:LEAST:MOST:ALL:ANY`, and a `d` for each stated default. Printed are
+//! `module` and whether each type is known, or what is told of the items, or the number of the first item that leaves the forms of
+//! the reader of values.
 //!
 //! A line whose first column begins with `value` and a type has items in the second, as before, and a value in a third. Printed is whether
 //! a module of these items takes the value as that type, or the place where reading stops; `other numbers` where one is no i64 and no u64.
+//!
+//! A line whose first column begins with `covers` and two types, with ` -> ` between them, has the old items in the second and the new ones
+//! in a third, or `-` where there are none. Behind ` @ ` stand their rules and stated defaults, as those of a module. Printed is `covered`,
+//! or the rule that is broken, the way to the pair that breaks it, and that pair: types, or the numbers of an item and a variant. It is
+//! `unknown` where a type isn't known, and `reaches itself` where an item does.
 //!
 //! A line whose first column is `text item` has one item, which is printed, and behind ` | ` its copy without `Self`.
 //!
@@ -21,6 +27,7 @@
 //! them has a getter.
 ghost use Rattle.std.specs.Prelude.{◌≡◌, ◌++◌, codes, string_bytes, IfOk};
 
+use crate::covering::covers_answer;
 use crate::modules::{module_answer, value_answer};
 use crate::numbers::{Places, placed_trees};
 use crate::show::{show_container, show_place};
@@ -179,7 +186,7 @@ pub(crate) fn placed_item(alloc: Global, text: &str) -> Result<DeriveInput, Pars
     item_of(alloc, placed.trees())
 }
 
-/// What is told of the item, and the container that it is read as; or what comes of a module's items, or of a value by them.
+/// What is told of the item, and the container that it is read as; or what comes of a module's items, of a value by them, or of two modules.
 pub(crate) fn answer(alloc: Global, line: &str) -> Result<String, ParseFault> {
     let Some((head, text)) = line.split_once(" | ") else {
         return Err(no_case());
@@ -192,6 +199,9 @@ pub(crate) fn answer(alloc: Global, line: &str) -> Result<String, ParseFault> {
     }
     if word == "value" {
         return value_answer(alloc, renamer, text);
+    }
+    if word == "covers" {
+        return covers_answer(alloc, renamer, text);
     }
     if word == "text" {
         return texts_answer(alloc, text);
