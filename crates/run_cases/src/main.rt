@@ -1,5 +1,5 @@
 //! Whole runs over sources and sinks in memory. Each line of standard input has three parts with tabs between them: the
-//! words, the streams, and the input. The words are those of `typify` (`describe`, `rust` and `explain` among them, whose input is a schema as it is, `sample`, which reads nothing, `covers`, whose input is two schemas, and `lines`, in whose input `␊` stands for a line feed), or `admission` with or without `--null-absent`, for
+//! words, the streams, and the input. The words are those of `typify` (`describe`, `rust`, `explain` and `example` among them, whose input is a schema as it is, `sample`, which reads nothing, `covers`, whose input is two schemas, and `lines`, in whose input `␊` stands for a line feed), or `admission` with or without `--null-absent`, for
 //! the plain program. The word `examine` stands for the call of that name at depth 8; `redescribe` and a type for the call of that name, whose input is items and values (redescribed.rt). The streams are nothing where nothing disturbs the run, or one of these:
 //! - four numbers: how many bytes the source gives at once and which of its reads fails, how many bytes the sink takes at once and which of its writes fails;
 //! - `padded` and a number: blanks stand behind the input, up to so many bytes;
@@ -13,13 +13,13 @@ mod redescribed;
 use crate::redescribed::redescription;
 use covers_run::Covers;
 use describe_run::Describing;
+use example_run::Exemplifying;
 use explain_run::Explaining;
 use model_lines::run_lines;
 use pair_words::run_pair;
 use run_input::{input_parts, input_value};
 use run_io::{MemorySink, MemorySource, PlainSink, PlainSource, Sink, Source};
 use rust_run::RustPrinting;
-use sample_run::run_sample;
 use schema_tree::{FailingTexts, PlainTexts, Setting, Texts};
 use schema_words::run_word;
 use std::alloc::{AllocError, Global};
@@ -157,9 +157,9 @@ fn product_run<S: Source, K: Sink, T: Texts>(
         "covers" => { run_pair(alloc, first, words, source, sink, texts, &Covers).status() }
         "rust" => { run_word(alloc, first, words, source, sink, texts, &RustPrinting).status() }
         "explain" => { run_word(alloc, first, words, source, sink, texts, &Explaining).status() }
+        "example" => { run_word(alloc, first, words, source, sink, texts, &Exemplifying).status() }
         "lines" => run_lines(alloc, words, source, sink, texts).status,
-        "sample" => run_sample(alloc, words, sink).status,
-        _ => typify_run::run(alloc, words, source, sink, texts).status,
+        _ => run_forms::run(alloc, words, source, sink, texts).status,
     }
 }
 

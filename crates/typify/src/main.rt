@@ -1,20 +1,24 @@
 //! The program `typify`: an input on standard input, which is one JSON object with a schema and a list of values, or for
-//! `describe`, `rust` and `explain` a schema as it is, for `covers` one object with two schemas, and for `lines` a schema and then values, one a line; the page on standard output, and the status of the run as the process's.
+//! `describe`, `rust`, `explain` and `example` a schema as it is, for `covers` one object with two schemas, and for `lines` a schema and then values, one a line; the page on standard output, and the status of the run as the process's.
 #![tactic(auto)]
+
+mod kept;
 
 use covers_run::Covers;
 use describe_run::Describing;
+use example_run::Exemplifying;
 use explain_run::Explaining;
+use kept::KeptSource;
 use model_lines::run_lines;
 use pair_words::run_pair;
+use run_forms::run;
 use rust_run::RustPrinting;
-use sample_run::run_sample;
 use schema_tree::Texts;
 use schema_words::{Answering, run_word};
 use std::alloc::Global;
 use std::env;
 use std::process::ExitCode;
-use typify_run::{RegexTexts, Sink, Source, StdSink, StdSource, run};
+use typify_run::{RegexTexts, Sink, Source, StdSink, StdSource};
 
 const HELP: &str = "typify check DEPTH [--null-absent]
 typify items DEPTH [--null-absent]
@@ -22,6 +26,7 @@ typify describe DEPTH [--null-absent]
 typify covers DEPTH [--null-absent]
 typify rust DEPTH [--null-absent]
 typify explain DEPTH [--null-absent]
+typify example DEPTH [--null-absent]
 typify lines DEPTH [--null-absent]
 typify sample N
 
@@ -41,13 +46,14 @@ what those of the old one write; `typify covers --help` says more.
 `rust` reads a schema as it is, too, and prints its items as one Rust module; `typify rust --help` says more.
 `explain` reads a schema as it is and says what its fault or its notes mean, and what to change; `typify explain --help`
 says more.
+`example` reads a schema as it is and prints a value that its items take; `typify example --help` says more.
 `lines` reads a schema in the first line and a value in each further one, and answers each as it comes, in the memory of
 one line; `typify lines --help` says more. `sample` reads nothing: it examines a schema of N definitions, from 1 to 999,
 and N values that it makes itself, and prints how many items, notes and taken values there are.
 
 Status: 0 a page was printed, 1 one line names a fault, 2 other words, 3 the input is too long or isn't that object,
-4 reading failed, 5 writing failed, 6 memory ran out, 7 more lines came than are read, 8 there is no description, or
-the new items don't read what the old ones write.";
+4 reading failed, 5 writing failed, 6 memory ran out, 7 more than 4,294,967,296 bytes came, 8 there is no description, the
+new items don't read what the old ones write, or there is no example or it can't be told.";
 
 const DESCRIBE_HELP: &str = "typify describe DEPTH [--null-absent]
 
@@ -91,8 +97,8 @@ stand in the page, what a value settles to that the old schema admits, the new o
 i64.
 
 `broken` names the first pair of types that breaks a rule, and the way to it as a place in old values, each as a JSON
-string; the contents of a variant are written `ITEM::VARIANT`. RULE is Kind, Range, Rule, Length, Tag, Variant, Missing, Unknown, Twice or Rest; docs/EVOLUTION.md has
-the table. It doesn't say that some value shows the difference.
+string; the contents of a variant are written `ITEM::VARIANT`. RULE is Kind, Range, Rule, Length, Tag, Variant, Missing,
+Unknown, Twice or Rest; docs/EVOLUTION.md has the table. It doesn't say that some value shows the difference.
 
 Status: 0 covered, 1 one line names a fault behind `old` or `new`, 2 other words, 3 the input is too long or isn't that
 object, 4 reading failed, 5 writing failed, 6 memory ran out, 8 broken.";
@@ -137,6 +143,24 @@ docs/NOTES.md say more of each fault and each note.
 Status: 0 it compiles, 1 it has a fault, 2 other words, 3 the input is too long or isn't JSON, 4 reading failed, 5 writing
 failed, 6 memory ran out.";
 
+const EXAMPLE_HELP: &str = "typify example DEPTH [--null-absent]
+
+Reads a JSON Schema as it is from standard input (at most 16,777,216 bytes), compiles it as `check` does, and prints a
+value that the items take: one JSON text, indented. DEPTH and --null-absent are those of `check`.
+
+    $ echo '{\"type\":\"object\",\"properties\":{\"a\":{\"type\":\"string\",\"minLength\":2}},\"required\":[\"a\"]}' | typify example 64
+    {
+      \"a\": \"aa\"
+    }
+
+The line `none` says that no value with i64 numbers is taken: where `check` prints no Narrowed note the schema admits no
+such value either. The line `outside NAME` names the first item, and `outside` the root's own type, that has a date, a
+UUID or an address, a pattern, or a list of forbidden values, also at a property that may be left out: then it isn't told
+whether there is an example. A value that is nested more than 127 deep is printed, but isn't read by `check`.
+
+Status: 0 a value was printed, 1 one line names a fault, 2 other words, 3 the input is too long or isn't JSON, 4 reading
+failed, 5 writing failed, 6 memory ran out, 8 there is none, or it can't be told.";
+
 const LINES_HELP: &str = "typify lines DEPTH [--null-absent]
 
 Reads lines from standard input: the first is a JSON Schema, each further one a JSON value, at most 1,048,576 bytes each.
@@ -161,7 +185,7 @@ const VERSION: &str = "typify 0.8.0";
 /// Whether the word reads a schema as it is.
 fn reads_schema(word: &str) -> bool {
     match word {
-        "describe" | "rust" | "explain" => true,
+        "describe" | "rust" | "explain" | "example" => true,
         _ => false,
     }
 }
@@ -170,10 +194,13 @@ fn reads_schema(word: &str) -> bool {
 fn hint(word: &str, status: u8) -> Option<&'static str> {
     match status {
         2 => Some(
-            "typify: there are other words than `check DEPTH [--null-absent]`, `items DEPTH [--null-absent]`, `describe DEPTH [--null-absent]`, `covers DEPTH [--null-absent]`, `rust DEPTH [--null-absent]`, `explain DEPTH [--null-absent]`, `lines DEPTH [--null-absent]` and `sample N`, where DEPTH is from 1 to 512 and N from 1 to 999; `typify --help` says more",
+            "typify: these words are none of `check`, `items`, `describe`, `covers`, `rust`, `explain`, `example` and `lines` with a DEPTH from 1 to 512, alone or with `--null-absent` behind it, and no `sample` with an N from 1 to 999; `typify --help` says more",
+        ),
+        3 if word == "explain" => Some(
+            "typify: the input isn't one JSON text of at most 16,777,216 bytes",
         ),
         3 if reads_schema(word) => Some(
-            "typify: the input isn't one JSON text: it may end early, begin with a byte order mark, be nested more than 127 deep, or be longer than 16,777,216 bytes",
+            "typify: the input isn't one JSON text: it may end early, begin with a byte order mark, be nested more than 127 deep, or be longer than 16,777,216 bytes; `typify explain 64` names the line",
         ),
         3 if word == "covers" => Some(
             "typify: the input isn't one JSON object with exactly the members `old` and `new`: it may be a bare schema, lack a member or have another, end early, begin with a byte order mark, be nested more than 127 deep, or be longer than 16,777,216 bytes",
@@ -187,7 +214,7 @@ fn hint(word: &str, status: u8) -> Option<&'static str> {
         4 => Some("typify: reading standard input failed"),
         5 => Some("typify: writing to standard output failed"),
         6 => Some(
-            "typify: memory ran out, or more than 300 schemas stand in one another, or a value or a default is more than 1,000 levels deep",
+            "typify: memory ran out, or more than 300 schemas stand in one another, or a value or a default is more than 1,000 levels deep, or an example is made of more than 1,000,000 types",
         ),
         7 => Some("typify: more than 4,294,967,296 bytes came"),
         _ => None,
@@ -206,6 +233,8 @@ fn told(word: &str) -> Option<&'static str> {
 /// The text that a word and what stands behind it ask for.
 fn told_of(word: &str, about: &str) -> Option<&'static str> {
     match word {
+        "check" | "items" | "sample" if about == "--help" || about == "-h" => Some(HELP),
+        "help" if about == "check" || about == "items" || about == "sample" => Some(HELP),
         "describe" if about == "--help" || about == "-h" => Some(DESCRIBE_HELP),
         "help" if about == "describe" => Some(DESCRIBE_HELP),
         "covers" if about == "--help" || about == "-h" => Some(COVERS_HELP),
@@ -214,6 +243,8 @@ fn told_of(word: &str, about: &str) -> Option<&'static str> {
         "help" if about == "rust" => Some(RUST_HELP),
         "explain" if about == "--help" || about == "-h" => Some(EXPLAIN_HELP),
         "help" if about == "explain" => Some(EXPLAIN_HELP),
+        "example" if about == "--help" || about == "-h" => Some(EXAMPLE_HELP),
+        "help" if about == "example" => Some(EXAMPLE_HELP),
         "lines" if about == "--help" || about == "-h" => Some(LINES_HELP),
         "help" if about == "lines" => Some(LINES_HELP),
         _ => None,
@@ -281,14 +312,35 @@ fn main(rt: HostRuntime) -> ExitCode {
             &mut texts,
             &RustPrinting,
         ),
-        "explain" => answered(
+        "explain" => {
+            let mut kept = KeptSource::new(alloc, source);
+            let status = answered(
+                alloc,
+                first,
+                words,
+                &mut kept,
+                &mut sink,
+                &mut texts,
+                &Explaining,
+            );
+            if status == 3 {
+                if let Some((line, bytes)) = kept.stops(alloc) {
+                    let _ = eprintln!(rt;
+                        "typify: the input isn't JSON, or is nested more than 127 deep, at byte {bytes} of line {line} or just before it"
+                    );
+                    return ExitCode::from(3);
+                }
+            }
+            status
+        }
+        "example" => answered(
             alloc,
             first,
             words,
             &mut source,
             &mut sink,
             &mut texts,
-            &Explaining,
+            &Exemplifying,
         ),
         "covers" => {
             let covers = Covers;
@@ -304,7 +356,6 @@ fn main(rt: HostRuntime) -> ExitCode {
             .status()
         }
         "lines" => run_lines(alloc, words, &mut source, &mut sink, &mut texts).status,
-        "sample" => run_sample(alloc, words, &mut sink).status,
         _ => run(alloc, words, &mut source, &mut sink, &mut texts).status,
     };
     if let Some(line) = hint(first, status) {
