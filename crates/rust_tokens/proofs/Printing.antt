@@ -5,7 +5,7 @@ use Rattle.std.specs.Char.{is_digit, digit_value}
 use Rattle.std.proofs.lemmas.Bool.{and_parts, ltb-true}
 use Rattle.std.proofs.lemmas.Bool.Decides.{eqb_tells}
 use Rattle.std.proofs.lemmas.Str.{encode_ascii, encodes-append}
-use Rattle.token_trees.specs.Text.{escaped}
+use Rattle.token_trees.specs.Text.{numbered, shown, escaped}
 use Rattle.rust_tokens.specs.Front.{hex_len, hex_value, byte_escape, braced_escape, unicode_escape, escape, unit, body, begins_with}
 use Rattle.rust_tokens.proofs.Bodies.{after_body, body_unit, body_quote, body_bad, body_more, eqb_no}
 use lib.Utf8.{scalar, scalars, low_scalar}
@@ -130,6 +130,18 @@ body_text (c ∷ cs) zero h v m e =
     ]
 
 -- The spelling of a string literal's character, in characters
+abbrev shown_chars : ℕ → List ℕ
+shown_chars c =
+    cond (eqb c 8234) (numbered 50 97)
+    (cond (eqb c 8235) (numbered 50 98)
+    (cond (eqb c 8236) (numbered 50 99)
+    (cond (eqb c 8237) (numbered 50 100)
+    (cond (eqb c 8238) (numbered 50 101)
+    (cond (eqb c 8294) (numbered 54 54)
+    (cond (eqb c 8295) (numbered 54 55)
+    (cond (eqb c 8296) (numbered 54 56)
+    (cond (eqb c 8297) (numbered 54 57) (c ∷ [])))))))))
+
 abbrev pub spelled : ℕ → List ℕ
 spelled c =
     cond (eqb c 10) (92 ∷ 110 ∷ [])
@@ -137,7 +149,7 @@ spelled c =
     (cond (eqb c 9) (92 ∷ 116 ∷ [])
     (cond (eqb c 0) (92 ∷ 48 ∷ [])
     (cond (eqb c 92) (92 ∷ 92 ∷ [])
-    (cond (eqb c 34) (92 ∷ 34 ∷ []) (c ∷ []))))))
+    (cond (eqb c 34) (92 ∷ 34 ∷ []) (shown_chars c))))))
 
 ascii_two : (a b : ℕ) → a < 128 → b < 128 → encode_utf8_all (a ∷ b ∷ []) ≡ a ∷ b ∷ []
 ascii_two a b h k = ap (λ l. l ++ encode_utf8_all (b ∷ [])) (encode_ascii a h) ∙ ap (λ l. a ∷ (l ++ [])) (encode_ascii b k)
@@ -146,6 +158,19 @@ both_encoded : (b : Bool) (x y v w : List ℕ) → encode_utf8_all x ≡ v → e
 both_encoded true x y v w h k = h
 both_encoded false x y v w h k = k
 
+shown_bytes : (c : ℕ) → encode_utf8_all (shown_chars c) ≡ shown c
+unfolding lib.Utf8.encode
+shown_bytes c =
+    both_encoded (eqb c 8234) _ _ _ _ refl
+    (both_encoded (eqb c 8235) _ _ _ _ refl
+    (both_encoded (eqb c 8236) _ _ _ _ refl
+    (both_encoded (eqb c 8237) _ _ _ _ refl
+    (both_encoded (eqb c 8238) _ _ _ _ refl
+    (both_encoded (eqb c 8294) _ _ _ _ refl
+    (both_encoded (eqb c 8295) _ _ _ _ refl
+    (both_encoded (eqb c 8296) _ _ _ _ refl
+    (both_encoded (eqb c 8297) _ _ _ _ refl (append-nil (encode_utf8 c))))))))))
+
 spelled_bytes : (c : ℕ) → encode_utf8_all (spelled c) ≡ escaped c
 spelled_bytes c =
     both_encoded (eqb c 10) _ _ _ _ (ascii_two 92 110 (omega arith) (omega arith))
@@ -153,7 +178,7 @@ spelled_bytes c =
     (both_encoded (eqb c 9) _ _ _ _ (ascii_two 92 116 (omega arith) (omega arith))
     (both_encoded (eqb c 0) _ _ _ _ (ascii_two 92 48 (omega arith) (omega arith))
     (both_encoded (eqb c 92) _ _ _ _ (ascii_two 92 92 (omega arith) (omega arith))
-    (both_encoded (eqb c 34) _ _ _ _ (ascii_two 92 34 (omega arith) (omega arith)) (append-nil (encode_utf8 c)))))))
+    (both_encoded (eqb c 34) _ _ _ _ (ascii_two 92 34 (omega arith) (omega arith)) (shown_bytes c))))))
 
 pub spelled_all : (vs : List ℕ) → encode_utf8_all (flat_map spelled vs) ≡ flat_map escaped vs
 spelled_all [] = refl
@@ -165,10 +190,14 @@ both_scalars : (b : Bool) (x y : List ℕ) → scalars x ≡ true → scalars y 
 both_scalars true x y h k = h
 both_scalars false x y h k = k
 
+shown_scalars : (c : ℕ) → scalar c ≡ true → scalars (shown_chars c) ≡ true
+shown_scalars c h =
+    both_scalars (eqb c 8234) _ _ refl (both_scalars (eqb c 8235) _ _ refl (both_scalars (eqb c 8236) _ _ refl (both_scalars (eqb c 8237) _ _ refl (both_scalars (eqb c 8238) _ _ refl (both_scalars (eqb c 8294) _ _ refl (both_scalars (eqb c 8295) _ _ refl (both_scalars (eqb c 8296) _ _ refl (both_scalars (eqb c 8297) _ _ refl (ap (λ b. b && true) h)))))))))
+
 spelled_scalars : (c : ℕ) → scalar c ≡ true → scalars (spelled c) ≡ true
 spelled_scalars c h =
     both_scalars (eqb c 10) _ _ refl (both_scalars (eqb c 13) _ _ refl (both_scalars (eqb c 9) _ _ refl (both_scalars (eqb c 0) _ _ refl
-    (both_scalars (eqb c 92) _ _ refl (both_scalars (eqb c 34) _ _ refl (ap (λ b. b && true) h))))))
+    (both_scalars (eqb c 92) _ _ refl (both_scalars (eqb c 34) _ _ refl (shown_scalars c h))))))
 
 pub spelled_all_scalars : (vs : List ℕ) → scalars vs ≡ true → scalars (flat_map spelled vs) ≡ true
 spelled_all_scalars [] h = refl
@@ -191,6 +220,22 @@ escape_read v k c tail e h =
 plain_read : (v : ℕ) (tail : List ℕ) → (v ≡ 92 → ⊥) → (v ≡ 34 → ⊥) → ReadsOne v tail (v ∷ [])
 plain_read v tail h k = body_unit v tail v 0 k (ap (λ b. cond b (escape tail) (Some (v, 0))) (eqb_no v 92 h))
 
+number_read : (v n x y : ℕ) (tail : List ℕ) → unit 92 (117 ∷ 123 ∷ 50 ∷ 48 ∷ x ∷ y ∷ 125 ∷ tail) ≡ Some (n, 7) → v ≡ n → ReadsOne v tail (numbered x y)
+number_read v n x y tail e h =
+    body_unit 92 (117 ∷ 123 ∷ 50 ∷ 48 ∷ x ∷ y ∷ 125 ∷ tail) n 7 (λ q. absurd (omega arith)) e ∙ ap (λ z. after_body (encode_utf8 z) 8 (body 0 tail)) (sym h)
+
+shown_read : (v : ℕ) (tail : List ℕ) → (v ≡ 92 → ⊥) → (v ≡ 34 → ⊥) → ReadsOne v tail (shown_chars v)
+shown_read v tail h k =
+    choose v 8234 tail _ _ (number_read v 8234 50 97 tail refl) (λ n0.
+    choose v 8235 tail _ _ (number_read v 8235 50 98 tail refl) (λ n1.
+    choose v 8236 tail _ _ (number_read v 8236 50 99 tail refl) (λ n2.
+    choose v 8237 tail _ _ (number_read v 8237 50 100 tail refl) (λ n3.
+    choose v 8238 tail _ _ (number_read v 8238 50 101 tail refl) (λ n4.
+    choose v 8294 tail _ _ (number_read v 8294 54 54 tail refl) (λ n5.
+    choose v 8295 tail _ _ (number_read v 8295 54 55 tail refl) (λ n6.
+    choose v 8296 tail _ _ (number_read v 8296 54 56 tail refl) (λ n7.
+    choose v 8297 tail _ _ (number_read v 8297 54 57 tail refl) (λ n8. plain_read v tail h k)))))))))
+
 pub spelled_read : (v : ℕ) (tail : List ℕ) → ReadsOne v tail (spelled v)
 spelled_read v tail =
     choose v 10 tail _ _ (escape_read v 10 110 tail refl) (λ n1.
@@ -198,7 +243,7 @@ spelled_read v tail =
     choose v 9 tail _ _ (escape_read v 9 116 tail refl) (λ n3.
     choose v 0 tail _ _ (escape_read v 0 48 tail refl) (λ n4.
     choose v 92 tail _ _ (escape_read v 92 92 tail refl) (λ n5.
-    choose v 34 tail _ _ (escape_read v 34 34 tail refl) (λ n6. plain_read v tail n5 n6))))))
+    choose v 34 tail _ _ (escape_read v 34 34 tail refl) (λ n6. shown_read v tail n5 n6))))))
 
 pub spelled_body : (vs tail : List ℕ) → body 0 (flat_map spelled vs ++ 34 ∷ tail) ≡ Some (encode_utf8_all vs, length (flat_map spelled vs) + 1)
 spelled_body [] tail = refl

@@ -38,7 +38,25 @@ abbrev pub pieces_of : List Tok → List Piece
 pieces_of [] = []
 pieces_of (t ∷ ts) = pieces t ++ pieces_of ts
 
--- a character of a string literal, in UTF-8: newline, return, tab, the zero character, `\` and `"` are escaped
+-- `\u{20` and the two last digits of a character's number, and `}`
+abbrev pub numbered : ℕ → ℕ → List ℕ
+numbered x y = 92 ∷ 117 ∷ 123 ∷ 50 ∷ 48 ∷ x ∷ y ∷ 125 ∷ []
+
+-- A character in UTF-8, but that those which change the direction of what is shown (Unicode Standard Annex 9: U+202A to U+202E, U+2066 to U+2069)
+-- are escaped: rustc denies them in a literal.
+abbrev pub shown : ℕ → List ℕ
+shown c =
+    cond (c == 8234) (numbered 50 97)
+    (cond (c == 8235) (numbered 50 98)
+    (cond (c == 8236) (numbered 50 99)
+    (cond (c == 8237) (numbered 50 100)
+    (cond (c == 8238) (numbered 50 101)
+    (cond (c == 8294) (numbered 54 54)
+    (cond (c == 8295) (numbered 54 55)
+    (cond (c == 8296) (numbered 54 56)
+    (cond (c == 8297) (numbered 54 57) (encode_utf8 c)))))))))
+
+-- a character of a string literal: newline, return, tab, the zero character, `\` and `"` are escaped, and what changes the direction
 abbrev pub escaped : ℕ → List ℕ
 escaped c =
     cond (c == 10) (92 ∷ 110 ∷ [])
@@ -46,7 +64,7 @@ escaped c =
     (cond (c == 9) (92 ∷ 116 ∷ [])
     (cond (c == 0) (92 ∷ 48 ∷ [])
     (cond (c == 92) (92 ∷ 92 ∷ [])
-    (cond (c == 34) (92 ∷ 34 ∷ []) (encode_utf8 c))))))
+    (cond (c == 34) (92 ∷ 34 ∷ []) (shown c))))))
 
 abbrev pub fixed_spelling : Fixed → List ℕ
 fixed_spelling (text value suffix) = 34 ∷ (flat_map escaped (chars value) ++ 34 ∷ suffix)

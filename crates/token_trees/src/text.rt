@@ -2,7 +2,7 @@
 ghost use Rattle.std.specs.Prelude.{◌≡◌, OnOk, IfOk, true, false, ◌++◌, ◌∷◌, [], string_bytes, encode_utf8, flat_map};
 ghost use Rattle.std.specs.Str.{chars};
 ghost use Rattle.token_trees.specs.View.{tree as tree_view, fixed_view, stream as stream_view};
-ghost use Rattle.token_trees.specs.Text.{pieces_of, fixed_spelling, is_joint_spacing, gap, spaced, tight_after, text_of, escaped};
+ghost use Rattle.token_trees.specs.Text.{pieces_of, fixed_spelling, is_joint_spacing, gap, spaced, tight_after, text_of, shown, escaped};
 ghost use Rattle.token_trees.specs.Brackets.{opening_pieces, closing_pieces, first_pieces};
 
 use crate::token::{Delimiter, Lit, Spacing, TokenStream, TokenTree};
@@ -18,6 +18,24 @@ fn is_tight(spacing: Spacing) -> bool
     }
 }
 
+// A character, escaped where it changes the direction of what is shown.
+fn push_shown(out: &mut String, ch: char) -> Result<(), AllocError>
+    ensures { OnOk result (string_bytes out.new ≡ string_bytes out.old ++ shown ch) }
+{
+    match ch {
+        '\u{202a}' => out.push_str("\\u{202a}"),
+        '\u{202b}' => out.push_str("\\u{202b}"),
+        '\u{202c}' => out.push_str("\\u{202c}"),
+        '\u{202d}' => out.push_str("\\u{202d}"),
+        '\u{202e}' => out.push_str("\\u{202e}"),
+        '\u{2066}' => out.push_str("\\u{2066}"),
+        '\u{2067}' => out.push_str("\\u{2067}"),
+        '\u{2068}' => out.push_str("\\u{2068}"),
+        '\u{2069}' => out.push_str("\\u{2069}"),
+        _ => out.push(ch),
+    }
+}
+
 // A character of a string literal, escaped where it has to be.
 fn push_escaped(out: &mut String, ch: char) -> Result<(), AllocError>
     ensures { OnOk result (string_bytes out.new ≡ string_bytes out.old ++ escaped ch) }
@@ -29,7 +47,7 @@ fn push_escaped(out: &mut String, ch: char) -> Result<(), AllocError>
         '\0' => out.push_str("\\0"),
         '\\' => out.push_str("\\\\"),
         '"' => out.push_str("\\\""),
-        _ => out.push(ch),
+        _ => push_shown(out, ch),
     }
 }
 
@@ -190,7 +208,7 @@ fn print_stream(alloc: Global, stream: &TokenStream, out: &mut Printer) -> Resul
 
 impl TokenStream {
     /// The tokens with one space between any two, but none after a joint character. Brackets are tokens, a group
-    /// without delimiters is its tokens, and string literals are escaped.
+    /// without delimiters is its tokens, and string literals are escaped, so that rustc takes them.
     pub fn text(&self, alloc: Global) -> Result<String, AllocError>
         ensures { IfOk result (λ s. string_bytes s ≡ text_of (stream_view self.now)) }
     {
