@@ -10,7 +10,6 @@ use Rattle.schema_defs.specs.Texts.{Relations}
 use Rattle.model_defs.specs.Types.{TypeModel}
 use Rattle.model_defs.specs.Model.{ContainerModel, ConversionsD}
 use Rattle.model_defs.specs.Reads.{reads}
-use Rattle.model_defs.specs.Reach.{NoneReachesItself}
 use Rattle.model_defs.specs.Refusals.{refused_at}
 use Rattle.model_defs.specs.Settled.{settled}
 use Rattle.typed_defs.specs.Typed.{Typed}
@@ -38,7 +37,7 @@ module _ (models : List ContainerModel) (conversions : ConversionsD) (relations 
     abbrev pub IsRead : Typed → Type 0
     IsRead x =
         (reading models conversions relations t v ≡ taken x) × (reads models conversions relations t v ≡ true)
-        × (NoneReachesItself models → written models t x ≡ settled models conversions relations t v)
+        × (written models t x ≡ settled models conversions relations t v)
 
     -- the value isn't read, and reading stops at that place
     abbrev pub IsStopped : Location → Type 0
@@ -50,7 +49,7 @@ module _ (models : List ContainerModel) (conversions : ConversionsD) (relations 
 
     -- taken exactly where it is read, and then as it is written, which is what it settles to; else refused where reading stops
     abbrev pub IsVerdict : VerdictD → Type 0
-    IsVerdict (verdict.taken d) = (reads models conversions relations t v ≡ true) × IsWritten d × (NoneReachesItself models → value_of d ≡ settled models conversions relations t v)
+    IsVerdict (verdict.taken d) = (reads models conversions relations t v ≡ true) × IsWritten d × (value_of d ≡ settled models conversions relations t v)
     IsVerdict (verdict.refused l) = IsStopped l
 
     -- why there is no typed value: want of memory, a judge of texts that failed, or the place where reading stops

@@ -12,11 +12,12 @@ ghost use Rattle.model_defs.specs.Reach.{NoneReachesItself};
 ghost use Rattle.value_kinds.specs.Kinds.{kinds_where};
 ghost use Rattle.value_models.specs.ContainersView.{containers_in};
 ghost use Rattle.value_models.specs.VariantView.{variant_view};
-ghost use Rattle.writing_laws.specs.Kinds.{content_may_read, may_read};
+ghost use Rattle.writing_laws.specs.Kinds.{content_may_read, may_read, untagged_are_apart as all_apart};
 ghost use Rattle.derive_model.specs.ModuleView.{items_in, models_in, conversions_in, containers_read};
 
 use crate::kinds::kinds_of;
 use crate::module::Module;
+use apart_kinds::untagged_are_apart;
 use attr_parts::Derive;
 use conversion_table::Conversions;
 use derive_ast::Container;
@@ -84,5 +85,13 @@ impl<'a> Module<'a> {
         ensures { (closed : Bool) → result ≡ kinds_where (λ k. content_may_read k (models_in self.now) (variant_content closed (variant_view variant.now))) }
     {
         self.table.content_kinds(variant)
+    }
+
+    /// Whether no two variants of an untagged enum may read one kind of JSON value. Where they may, what is written of a value
+    /// may be read as an earlier variant than the value was. It takes no memory.
+    pub fn untagged_are_apart(&self) -> bool
+        ensures { result ≡ all_apart (models_in self.now) }
+    {
+        untagged_are_apart(&self.table)
     }
 }

@@ -11,7 +11,7 @@ use Rattle.reading_defs.specs.Proper.{are_rules_fit, have_shapes}
 use Rattle.container_defs.specs.Reader.{item_models}
 use Rattle.container_defs.specs.Forms.{are_inside}
 
--- what the law on reading asks of models, but for their defaults, and that no item reaches itself at one value
+-- what the law on reading asks of models, but for their defaults
 pub record AreFit (models : List ContainerModel) : Type 0 where
   pub fit : are_models_fit models ≡ true
   pub shapes : have_shapes models ≡ true

@@ -9,9 +9,10 @@ use Rattle.schema_defs.specs.Texts.{Relations}
 use Rattle.model_defs.specs.Types.{TypeModel, boolean_type, integer_type, text_type, item_type}
 use Rattle.model_defs.specs.Model.{ContainerModel, ConversionsD}
 use Rattle.model_defs.specs.Layer.{one_type, named_fields, MemberPart, Parts, no_parts, list_parts, object_parts, own_members, other_members, unnamed_members, members_in, field_takes}
-use Rattle.model_defs.specs.Reads.{allowed, leads_to_option, value_reads}
+use Rattle.model_defs.specs.Reads.{allowed, leads_to_option, value_reads, still_reads}
 use Rattle.model_defs.specs.Refusals.{Seen, judged, in_field, in_fields, after_unnamed, in_struct, type_stops, container_stops, item_stops, value_stops, items_seen, members_seen, refused_at}
 use Rattle.model_defs.specs.Flat.{Flat, is_simple, takes_flat, flat_field, flat_model, all_simple, names_differ, MembersApart, NamesApart, first_unnamed, stops_at_field, first_wrong, or_further, flat_stops, FlatRefusals}
+use Rattle.model_defs.proofs.Rows.{reads-level}
 use Rattle.model_defs.proofs.Flat.{and_first, and_second, not_true, bytes_itself, kept, leads_not, simple_read, fields_content_read}
 
 -- ---- members that no field names
@@ -177,8 +178,8 @@ module _ (n : List ℕ) (closed : Bool) (fs : List Flat) (conversions : Conversi
   item_stopped : (v : Value) (parts : Parts Seen) → value_reads table conversions relations v (named_fields closed (map flat_field fs)) ≡ false
       → item_stops table conversions relations v parts (allowed table) n ≡ in_struct (leads_to_option table) closed (map flat_field fs) (members_in parts)
   item_stopped v parts e =
-      ap (λ b. container_stops (leads_to_option table) (value_reads table conversions relations v) v parts (type_stops parts (item_stops table conversions relations v parts (length table))) (cond b (Some (flat_model n closed fs)) None)) (bytes_itself n)
-      ∙ ap (λ b. cond b [] (in_struct (leads_to_option table) closed (map flat_field fs) (members_in parts))) e
+      ap (λ b. container_stops (leads_to_option table) (still_reads table conversions relations v (length table)) v parts (type_stops parts (item_stops table conversions relations v parts (length table))) (cond b (Some (flat_model n closed fs)) None)) (bytes_itself n)
+      ∙ ap (λ b. cond b [] (in_struct (leads_to_option table) closed (map flat_field fs) (members_in parts))) (sym (reads-level table conversions relations v (named_fields closed (map flat_field fs))) ∙ e)
 
   no_members_unnamed : (gs : List Flat) → unnamed_members {J = Seen} (map flat_field gs) [] ≡ []
   no_members_unnamed [] = refl

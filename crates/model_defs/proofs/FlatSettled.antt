@@ -8,7 +8,7 @@ use Rattle.schema_defs.specs.Texts.{Relations}
 use Rattle.model_defs.specs.Types.{TypeModel, boolean_type, integer_type, text_type, item_type}
 use Rattle.model_defs.specs.Model.{ContainerModel, ConversionsD}
 use Rattle.model_defs.specs.Layer.{one_type, MemberPart, Parts, object_parts, own_members, other_members, unnamed_members, members_in}
-use Rattle.model_defs.specs.Reads.{allowed, leads_to_option, value_reads}
+use Rattle.model_defs.specs.Reads.{allowed, leads_to_option, still_reads}
 use Rattle.model_defs.specs.Settled.{Part, put_all, field_written, fields_written, rests_written, struct_written, type_writes, container_writes, item_writes, name_writes, value_writes, member_writers, settled, settled_inside}
 use Rattle.model_defs.specs.Flat.{Flat, is_simple, all_named, takes_flat, flat_field, flat_model, all_simple, names_differ, MembersRise, NamesRise, named_only, flat_written, FlatStructsAreWritten}
 use Rattle.model_defs.proofs.Flat.{and_first, and_second, not_true, bytes_itself, kept, leads_not}
@@ -223,7 +223,7 @@ module _ (n : List ℕ) (closed : Bool) (fs : List Flat) (conversions : Conversi
   module _ (default_of : ℕ → TypeModel → Value) where
     item_written : (v : Value) (parts : Parts Part) → item_writes table conversions relations default_of v parts (allowed table) n ≡ object (struct_written (leads_to_option table) default_of (map flat_field fs) (members_in parts))
     item_written v parts =
-        ap (λ b. container_writes (leads_to_option table) default_of (value_reads table conversions relations v) v parts (type_writes v parts (item_writes table conversions relations default_of v parts (length table))) (cond b (Some (flat_model n closed fs)) None)) (bytes_itself n)
+        ap (λ b. container_writes (leads_to_option table) default_of (still_reads table conversions relations v (length table)) v parts (type_writes v parts (item_writes table conversions relations default_of v parts (length table))) (cond b (Some (flat_model n closed fs)) None)) (bytes_itself n)
 
     object_written : names_differ fs ≡ true → all_simple fs ≡ true → (ms : Members) → MembersRise ms
         → value_writes table conversions relations default_of (object ms) (one_type (item_type n)) ≡ object (named_only fs ms)

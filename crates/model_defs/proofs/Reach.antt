@@ -57,7 +57,7 @@ module _ (leads : TypeModel → Bool) (r : Relations) (cs : ConversionsD) (v : V
   type_takes-agrees (item_type n) h = h n (lone_among n)
   type_takes-agrees _ h = refl
 
-  content_takes-agrees : (c : Content) → AgreeOn f g (asked_by_content c) → content_takes leads parts (type_takes r v parts f) c ≡ content_takes leads parts (type_takes r v parts g) c
+  pub content_takes-agrees : (c : Content) → AgreeOn f g (asked_by_content c) → content_takes leads parts (type_takes r v parts f) c ≡ content_takes leads parts (type_takes r v parts g) c
   content_takes-agrees (one_type t) h = type_takes-agrees t h
   content_takes-agrees (places ts) h = refl
   content_takes-agrees (named_fields closed fs) h = refl
@@ -108,7 +108,7 @@ module _ (models : List ContainerModel) where
     abbrev reads_at : ℕ → List ℕ → Bool
     reads_at k n = item_reads models cs r v parts k n
 
-    spare_reads : (k j : ℕ) → k ≤ j → (n : List ℕ) → Ends k n → reads_at j n ≡ reads_at k n
+    pub spare_reads : (k j : ℕ) → k ≤ j → (n : List ℕ) → Ends k n → reads_at j n ≡ reads_at k n
     spare_reads zero zero h n e = refl
     spare_reads zero (suc j) h n e = ap (container_takes (leads_to_option models) parts (type_takes r v parts (reads_at j)) r cs v) e
     spare_reads (suc k) zero h n e = absurd (omega arith)

@@ -8,11 +8,13 @@ use Rattle.schema_defs.specs.Integers.{Range}
 use Rattle.model_defs.specs.Types.{TypeModel, types_of, boolean_type, integer_type, text_type, native_type, any_type, unit_type, option_type, boxed_type, item_type}
 use Rattle.model_defs.specs.Model.{VariantModel, external_tag, internal_tag, adjacent_tag, untagged, BodyModel, struct_model, enum_model, ContainerModel, ConversionsD, container_named}
 use Rattle.model_defs.specs.Layer.{Content, one_type, places, named_fields, Parts, list_parts, object_parts, is_null, fields_content, variant_content}
-use Rattle.model_defs.specs.Reads.{allowed, value_reads, leads_to_option}
+use Rattle.model_defs.specs.Reads as reads
+use Rattle.model_defs.specs.Reads.{allowed, item_reads, value_reads, still_reads, leads_to_option}
 use Rattle.model_defs.specs.Settled.{Part, put_all, firsts_after, text_of, each_written, places_written, entries_written, struct_written, type_writes, content_writes, untagged_writes, body_writes, container_writes, item_writes, writes_within, value_writes, item_writers, member_writers}
 use Rattle.model_defs.specs.Reach.{asked, asked_by_content, asked_by_variants, asked_by_body, asked_by, is_among, NoneReachesItself}
 use Rattle.model_defs.specs.SettledRows.{in_places, written, part_of, member_part_of, parts_of, TypesAreWritten, ContentsAreWritten, ItemsAreWritten, RowsOfWriting}
-use Rattle.model_defs.proofs.Reach.{left_among, right_among, lone_among, Ends, all_end}
+use Rattle.model_defs.proofs.Reach.{left_among, right_among, lone_among, content_takes-agrees, Ends, spare_reads, all_end}
+use Rattle.model_defs.proofs.Rows.{reads-level}
 
 -- ---- the parts
 
@@ -145,43 +147,47 @@ module _ (models : List ContainerModel) (cs : ConversionsD) (r : Relations) (d :
     named = λ closed fs ms. ap (λ z. object (struct_written (leads_to_option models) d fs z)) (member_writers-map ms);
   }
 
--- ---- two writers of items that agree where they are asked
+-- ---- two writers of items that agree where they are asked, and two readers of contents that agree where those are
 
-abbrev AgreeOn : (List ℕ → Value) → (List ℕ → Value) → List (List ℕ) → Type 0
-AgreeOn f g ns = (n : List ℕ) → is_among n ns ≡ true → f n ≡ g n
+module _ (P : List ℕ → Type 0) where
+  abbrev AllOf : List (List ℕ) → Type 0
+  AllOf ns = (n : List ℕ) → is_among n ns ≡ true → P n
 
-module _ (leads : TypeModel → Bool) (d : ℕ → TypeModel → Value) (reads : Content → Bool) (v : Value) (parts : Parts Part) (f g : List ℕ → Value) where
-  type_agrees : (t : TypeModel) → AgreeOn f g (asked t) → type_writes v parts f t ≡ type_writes v parts g t
-  type_agrees (option_type t) h = ap (λ z. if is_null v then null else z) (type_agrees t h)
-  type_agrees (boxed_type t) h = type_agrees t h
-  type_agrees (item_type n) h = h n (lone_among n)
-  type_agrees _ h = refl
+  module _ (leads : TypeModel → Bool) (d : ℕ → TypeModel → Value) (a b : Content → Bool) (v : Value) (parts : Parts Part) (f g : List ℕ → Value)
+      (agree : (n : List ℕ) → P n → f n ≡ g n) (same : (c : Content) → AllOf (asked_by_content c) → a c ≡ b c) where
+    type_agrees : (t : TypeModel) → AllOf (asked t) → type_writes v parts f t ≡ type_writes v parts g t
+    type_agrees (option_type t) h = ap (λ z. if is_null v then null else z) (type_agrees t h)
+    type_agrees (boxed_type t) h = type_agrees t h
+    type_agrees (item_type n) h = agree n (h n (lone_among n))
+    type_agrees _ h = refl
 
-  content_agrees : (c : Content) → AgreeOn f g (asked_by_content c) → content_writes leads d reads v parts (type_writes v parts f) c ≡ content_writes leads d reads v parts (type_writes v parts g) c
-  content_agrees (one_type t) h = type_agrees t h
-  content_agrees (places ts) h = refl
-  content_agrees (named_fields closed fs) h = refl
+    content_agrees : (c : Content) → AllOf (asked_by_content c) → content_writes leads d a v parts (type_writes v parts f) c ≡ content_writes leads d b v parts (type_writes v parts g) c
+    content_agrees (one_type t) h = type_agrees t h
+    content_agrees (places ts) h = refl
+    content_agrees (named_fields closed fs) h = refl
 
-  variants_agree : (closed : Bool) (ws : List VariantModel) → AgreeOn f g (asked_by_variants closed ws)
-      → untagged_writes leads d reads v parts (type_writes v parts f) closed ws ≡ untagged_writes leads d reads v parts (type_writes v parts g) closed ws
-  variants_agree closed [] h = refl
-  variants_agree closed (w ∷ ws) h =
-      let one = content_agrees (variant_content closed w) (λ n k. h n (left_among n (asked_by_content (variant_content closed w)) (asked_by_variants closed ws) k)) in
-      let rec = variants_agree closed ws (λ n k. h n (right_among n (asked_by_content (variant_content closed w)) (asked_by_variants closed ws) k)) in
-      λ i. if reads (variant_content closed w) then one i else rec i
+    variants_agree : (closed : Bool) (ws : List VariantModel) → AllOf (asked_by_variants closed ws)
+        → untagged_writes leads d a v parts (type_writes v parts f) closed ws ≡ untagged_writes leads d b v parts (type_writes v parts g) closed ws
+    variants_agree closed [] h = refl
+    variants_agree closed (w ∷ ws) h =
+        let left = λ (n : List ℕ) (k : is_among n (asked_by_content (variant_content closed w)) ≡ true). h n (left_among n (asked_by_content (variant_content closed w)) (asked_by_variants closed ws) k) in
+        let one = content_agrees (variant_content closed w) left in
+        let rec = variants_agree closed ws (λ n k. h n (right_among n (asked_by_content (variant_content closed w)) (asked_by_variants closed ws) k)) in
+        let first = same (variant_content closed w) left in
+        λ i. if first i then one i else rec i
 
-  body_agrees : (closed : Bool) (b : BodyModel) → AgreeOn f g (asked_by_body closed b)
-      → body_writes leads d reads v parts (type_writes v parts f) closed b ≡ body_writes leads d reads v parts (type_writes v parts g) closed b
-  body_agrees closed (struct_model s fs) h = content_agrees (fields_content closed s fs) h
-  body_agrees closed (enum_model untagged ws) h = variants_agree closed ws h
-  body_agrees closed (enum_model external_tag ws) h = refl
-  body_agrees closed (enum_model (internal_tag t) ws) h = refl
-  body_agrees closed (enum_model (adjacent_tag t c) ws) h = refl
+    body_agrees : (closed : Bool) (m : BodyModel) → AllOf (asked_by_body closed m)
+        → body_writes leads d a v parts (type_writes v parts f) closed m ≡ body_writes leads d b v parts (type_writes v parts g) closed m
+    body_agrees closed (struct_model s fs) h = content_agrees (fields_content closed s fs) h
+    body_agrees closed (enum_model untagged ws) h = variants_agree closed ws h
+    body_agrees closed (enum_model external_tag ws) h = refl
+    body_agrees closed (enum_model (internal_tag t) ws) h = refl
+    body_agrees closed (enum_model (adjacent_tag t c) ws) h = refl
 
-  container_agrees : (m : Option ContainerModel) → AgreeOn f g (asked_by m)
-      → container_writes leads d reads v parts (type_writes v parts f) m ≡ container_writes leads d reads v parts (type_writes v parts g) m
-  container_agrees None h = refl
-  container_agrees (Some m) h = body_agrees m.closed m.body h
+    container_agrees : (m : Option ContainerModel) → AllOf (asked_by m)
+        → container_writes leads d a v parts (type_writes v parts f) m ≡ container_writes leads d b v parts (type_writes v parts g) m
+    container_agrees None h = refl
+    container_agrees (Some m) h = body_agrees m.closed m.body h
 
 -- ---- spare items
 
@@ -190,19 +196,30 @@ module _ (models : List ContainerModel) (cs : ConversionsD) (r : Relations) (d :
     abbrev writes_at : ℕ → List ℕ → Value
     writes_at k n = item_writes models cs r d v parts k n
 
+    abbrev reads_at : ℕ → Content → Bool
+    reads_at k c = still_reads models cs r v k c
+
+    spare_contents : (k j : ℕ) → k ≤ j → (c : Content) → AllOf (Ends models k) (asked_by_content c) → reads_at j c ≡ reads_at k c
+    spare_contents k j h c e =
+        let parts' = reads.parts_of models cs r v in
+        content_takes-agrees (leads_to_option models) r cs v parts' (item_reads models cs r v parts' j) (item_reads models cs r v parts' k) c (λ l a. spare_reads models cs r v parts' k j h l (e l a))
+
     spare_writes : (k j : ℕ) → k ≤ j → (n : List ℕ) → Ends models k n → writes_at j n ≡ writes_at k n
     spare_writes zero zero h n e = refl
-    spare_writes zero (suc j) h n e = ap (container_writes (leads_to_option models) d (value_reads models cs r v) v parts (type_writes v parts (writes_at j))) e
+    spare_writes zero (suc j) h n e = ap (container_writes (leads_to_option models) d (reads_at j) v parts (type_writes v parts (writes_at j))) e
     spare_writes (suc k) zero h n e = absurd (omega arith)
     spare_writes (suc k) (suc j) h n e =
-        container_agrees (leads_to_option models) d (value_reads models cs r v) v parts (writes_at j) (writes_at k) (container_named n models) (λ l a. spare_writes k j (omega arith) l (e l a))
+        container_agrees (Ends models k) (leads_to_option models) d (reads_at j) (reads_at k) v parts (writes_at j) (writes_at k) (spare_writes k j (omega arith)) (spare_contents k j (omega arith)) (container_named n models) e
 
   items_written : NoneReachesItself models → ItemsAreWritten models cs r d
   items_written none n v =
+      let parts = parts_of models cs r d v in
+      let most : length models ≤ allowed models = omega arith in
+      let same : (c : Content) → still_reads models cs r v (length models) c ≡ value_reads models cs r v c
+      = λ c. sym (spare_contents v parts (length models) (allowed models) most c (λ l a. all_end models none l)) ∙ sym (reads-level models cs r v c) in
       level models cs r d v (one_type (item_type n))
-      ∙ (λ i. container_writes (leads_to_option models) d (value_reads models cs r v) v (parts_of models cs r d v)
-      (type_writes v (parts_of models cs r d v) (λ l. sym (spare_writes v (parts_of models cs r d v) (length models) (allowed models) (omega arith) l (all_end models none l)) i)) (container_named n models))
-      ∙ (λ i. container_writes (leads_to_option models) d (value_reads models cs r v) v (parts_of models cs r d v) (λ t. sym (level models cs r d v (one_type t)) i) (container_named n models))
+      ∙ (λ i. container_writes (leads_to_option models) d (λ c. same c i) v parts (type_writes v parts (λ l. sym (spare_writes v parts (length models) (allowed models) most l (all_end models none l)) i)) (container_named n models))
+      ∙ (λ i. container_writes (leads_to_option models) d (value_reads models cs r v) v parts (λ t. sym (level models cs r d v (one_type t)) i) (container_named n models))
 
 pub rows_of_writing : RowsOfWriting
 rows_of_writing models cs r d = (types_written models cs r d, contents_written models cs r d, items_written models cs r d)

@@ -75,6 +75,10 @@ module _ (models : List ContainerModel) (conversions : ConversionsD) (relations 
   parts_of (object ms) = object_parts (member_judges ms)
   parts_of _ = no_parts
 
+  -- whether the value is read as contents, where so many items may still be entered at it
+  abbrev pub still_reads : Value → ℕ → Judge
+  still_reads v k = reads_within v (parts_of v) k
+
   -- whether the value is read as the type
   abbrev pub reads : TypeModel → Value → Bool
   reads t v = value_reads v (one_type t)

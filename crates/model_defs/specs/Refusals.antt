@@ -7,7 +7,7 @@ use Rattle.schema_defs.specs.Texts.{Relations}
 use Rattle.model_defs.specs.Types.{TypeModel, option_type, boxed_type, vec_type, set_type, map_type, tuple_type, array_type, item_type, types_of}
 use Rattle.model_defs.specs.Model.{struct_style, tuple_style, newtype_style, unit_style, FieldModel, VariantModel, external_tag, internal_tag, adjacent_tag, untagged, BodyModel, struct_model, enum_model, ContainerModel, ConversionsD, container_named, variant_named}
 use Rattle.model_defs.specs.Layer.{Content, one_type, places, named_fields, Judge, MemberPart, Parts, no_parts, list_parts, object_parts, own_members, other_members, unnamed_members, without, named, members_in, present_type, field_takes, map_takes, fields_content, variant_content, is_unit, variant_of_text}
-use Rattle.model_defs.specs.Reads.{allowed, leads_to_option, value_reads}
+use Rattle.model_defs.specs.Reads.{allowed, leads_to_option, value_reads, still_reads}
 
 -- a part of a value: whether it is read, and where reading it stops if not
 pub record Seen : Type 0 where
@@ -162,10 +162,10 @@ module _ (models : List ContainerModel) (conversions : ConversionsD) (relations 
   abbrev pub item_stops : Value → Parts Seen → ℕ → List ℕ → Location
   item_stops v parts zero n = []
   item_stops v parts (suc k) n =
-      container_stops (leads_to_option models) (value_reads models conversions relations v) v parts (type_stops parts (item_stops v parts k)) (container_named n models)
+      container_stops (leads_to_option models) (still_reads models conversions relations v k) v parts (type_stops parts (item_stops v parts k)) (container_named n models)
 
   abbrev pub stops_within : Value → Parts Seen → ℕ → Content → Location
-  stops_within v parts k c = content_stops (leads_to_option models) (value_reads models conversions relations v) v parts (type_stops parts (item_stops v parts k)) c
+  stops_within v parts k c = content_stops (leads_to_option models) (still_reads models conversions relations v k) v parts (type_stops parts (item_stops v parts k)) c
 
   abbrev mutual
     pub value_stops : Value → Content → Location

@@ -11,7 +11,7 @@ use Rattle.schema_defs.specs.Texts.{Relations}
 use Rattle.model_defs.specs.Types.{TypeModel, option_type, boxed_type, vec_type, set_type, map_type, tuple_type, array_type, item_type, types_of}
 use Rattle.model_defs.specs.Model.{DefaultModel, no_default, own_default, stated_default, HelperModel, no_helper, whole_helper, FieldModel, VariantModel, external_tag, internal_tag, adjacent_tag, untagged, BodyModel, struct_model, enum_model, ContainerModel, ConversionsD, container_named, variant_named}
 use Rattle.model_defs.specs.Layer.{Content, one_type, places, named_fields, MemberPart, Parts, no_parts, list_parts, object_parts, is_null, own_members, other_members, unnamed_members, without, named, members_in, present_type, fields_content, variant_content, is_unit, tagged_variant}
-use Rattle.model_defs.specs.Reads.{allowed, leads_to_option, value_reads}
+use Rattle.model_defs.specs.Reads.{allowed, leads_to_option, still_reads}
 
 -- a part of a value, and what it settles to
 pub record Part : Type 0 where
@@ -155,7 +155,7 @@ module _ (leads : TypeModel → Bool) (default_of : ℕ → TypeModel → Value)
   adjacent_writes closed tag content (Some w) =
       object (put tag (text w.serialize_name) (contents_written closed content w (named content (members_in parts)) no_members))
 
-  -- by the first variant that reads the value
+  -- by the first variant that reads the value with what may still be entered
   abbrev pub untagged_writes : Bool → List VariantModel → Value
   untagged_writes closed [] = v
   untagged_writes closed (w ∷ ws) = if reads (variant_content closed w) then content_writes (variant_content closed w) else untagged_writes closed ws
@@ -183,11 +183,11 @@ module _ (models : List ContainerModel) (conversions : ConversionsD) (relations 
     abbrev pub item_writes : Value → Parts Part → ℕ → List ℕ → Value
     item_writes v parts zero n = v
     item_writes v parts (suc k) n =
-        container_writes (leads_to_option models) default_of (value_reads models conversions relations v) v parts (type_writes v parts (item_writes v parts k)) (container_named n models)
+        container_writes (leads_to_option models) default_of (still_reads models conversions relations v k) v parts (type_writes v parts (item_writes v parts k)) (container_named n models)
 
     abbrev pub writes_within : Value → Parts Part → ℕ → Content → Value
     writes_within v parts k c =
-        content_writes (leads_to_option models) default_of (value_reads models conversions relations v) v parts (type_writes v parts (item_writes v parts k)) c
+        content_writes (leads_to_option models) default_of (still_reads models conversions relations v k) v parts (type_writes v parts (item_writes v parts k)) c
 
     abbrev pub name_writes : List ℕ → Content → Value
     name_writes n = writes_within (text n) no_parts (allowed models)

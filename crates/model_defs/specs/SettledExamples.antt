@@ -2,7 +2,7 @@
 use Rattle.std.specs.Prelude.{◌≡◌, ℕ, List, [], ◌∷◌, false}
 use Rattle.json_value.specs.Value.{Value, same, null, fraction, text}
 use Rattle.model_defs.specs.Types.{TypeModel, text_type, any_type, option_type, vec_type, set_type, map_type, tuple_type, types}
-use Rattle.model_defs.specs.Model.{newtype_style, unit_style, stated_default, some_helper, whole_helper, external_tag, untagged, struct_model, enum_model, VariantModel, ContainerModel}
+use Rattle.model_defs.specs.Model.{struct_style, newtype_style, unit_style, stated_default, some_helper, whole_helper, external_tag, untagged, struct_model, enum_model, VariantModel, ContainerModel}
 use Rattle.model_defs.specs.Settled.{settled}
 use Rattle.model_defs.specs.Examples.{texts, whole, one, two, three, a, b, c, byte, field, defaulted, skipped, helped, also_named, rest, unnamed, item, struct, variant, t, free, tag, content, external, internal, adjacent, bare, no_items, no_members, list_of}
 
@@ -68,4 +68,5 @@ pub record SettledEnums : Type 0 where
   pub untagged_first : ItemSettles (item (enum_model untagged (variant a newtype_style (unnamed byte ∷ []) ∷ variant b newtype_style (unnamed any_type ∷ []) ∷ []))) (whole 1) (whole 1)
   pub untagged_second : ItemSettles (item bare) (two a (whole 1) b null) (one a (whole 1))
   pub untagged_unit : ItemSettles (item (enum_model untagged (variant a unit_style [] ∷ []))) null null
+  pub untagged_of_itself : ItemSettles (item (enum_model untagged (variant a newtype_style (unnamed t ∷ []) ∷ variant b struct_style (field a byte ∷ []) ∷ []))) (two a (whole 1) b (whole 2)) (one a (whole 1))
   pub the_tag_stays : SettlesOtherwise (item internal) (two c (whole 1) tag (text b)) (one c (whole 1))

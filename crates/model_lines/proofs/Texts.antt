@@ -59,12 +59,12 @@ module _ (texts : Relations) (r : Report) (m : Module) (judges : CanJudge texts 
         (subst (λ (cs : ConversionsD). IsVerdict (models_in m) cs texts (root_of r) (value_of d) v) made.conversions h)
 
     pub is_printable : IsPrintable v
-    is_printable = printed containers table texts (root_of r) d v judges.ends judges.sound.numbers i by_containers
+    is_printable = printed containers table texts (root_of r) d v judges.sound.numbers i by_containers
 
     judged : (how : Deriving) → IsJudged (report_reads texts r how) (report_settles texts r how) (report_refuses texts r how) d v
     judged how =
         subst (λ (ms : List ContainerModel). IsJudged (reads ms table texts (root_of r)) (settled ms table texts (root_of r)) (refused_at ms table texts (root_of r)) d v) (sym (judges.alike how))
-        (said containers table texts (root_of r) d v judges.ends by_containers)
+        (said containers table texts (root_of r) d v by_containers)
 
     pub verdict_on : (l : List ℕ) → length l ≤ bound → IsJson l d → IsVerdictOn texts r l v
     verdict_on l short json = (short, (d, json, i, judged))

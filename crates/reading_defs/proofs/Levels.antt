@@ -104,7 +104,7 @@ module _ (models : List ContainerModel) (cs : ConversionsD) (r : Relations) wher
     all_sound zero entered n t = tt
     all_sound (suc k) entered n t =
         let v = default_at models cs r n in
-        let at = value_agrees models cs r (Unit {0}) (written_at k (n ∷ entered)) (read_at k (n ∷ entered)) p.none_reaches_itself (lax k (n ∷ entered) (all_sound k (n ∷ entered))) v (numbers_at cs.defaults n p.numbers) in
+        let at = value_agrees models cs r (Unit {0}) (written_at k (n ∷ entered)) (read_at k (n ∷ entered)) (lax k (n ∷ entered) (all_sound k (n ∷ entered))) v (numbers_at cs.defaults n p.numbers) in
         turn (written_at (suc k) entered) (read_at (suc k) entered) n t (list_any (nat_eq n) entered) _ _ v (value_writes models cs r (written_at k (n ∷ entered)) v (one_type t))
         ((value_reader models cs r (read_at k (n ∷ entered)) v).as_type t)
         (ap (cond (list_any (nat_eq n) entered) v) (settled_at k (n ∷ entered) t v)) (at.as_type t)
@@ -125,7 +125,7 @@ module _ (models : List ContainerModel) (cs : ConversionsD) (r : Relations) wher
     agrees : (t : TypeModel) (v : Value) → has_json_numbers v ≡ true
         → IsReading (reads models cs r t v) (refused_at models cs r t v) (settled models cs r t v) (written models t) (reading models cs r t v)
     agrees t v h =
-        let at = value_agrees models cs r ⊥ (written_at most []) (read_at most []) p.none_reaches_itself
+        let at = value_agrees models cs r ⊥ (written_at most []) (read_at most [])
         (goods ⊥ (written_at most []) (read_at most []) (λ f a b. record { fit = a; sound = sound_stated f b })) v h in
         by (reading models cs r t v) (at.as_type t)
       where

@@ -5,6 +5,5 @@ pub mod Rows
 pub mod Fields
 pub mod Types
 pub mod Items
-pub mod Spare
 pub mod Values
 pub mod Levels

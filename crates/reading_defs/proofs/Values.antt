@@ -8,12 +8,9 @@ use Rattle.schema_defs.specs.Texts.{Relations}
 use Rattle.model_defs.specs.Types.{TypeModel, text_type, native_type, any_type, option_type, boxed_type, vec_type, set_type, map_type, item_type}
 use Rattle.model_defs.specs.Model.{struct_style, tuple_style, newtype_style, unit_style, no_helper, VariantModel, external_tag, internal_tag, adjacent_tag, untagged, BodyModel, struct_model, enum_model, ContainerModel, ConversionsD, container_named, variant_named}
 use Rattle.model_defs.specs.Layer.{Content, one_type, places, named_fields, Judge, Parts, no_parts, list_parts, object_parts, type_takes, content_takes, body_takes, container_takes, is_unit_named, fields_content, variant_content}
-use Rattle.model_defs.specs.Reads.{allowed, leads_to_option, item_reads, value_reads, reads_within, parts_of, item_judges, member_judges}
+use Rattle.model_defs.specs.Reads.{allowed, leads_to_option, item_reads, value_reads, still_reads, reads_within, parts_of, item_judges, member_judges}
 use Rattle.model_defs.specs.Refusals.{Seen, item_stops, value_stops, items_seen, members_seen, type_stops, content_stops}
 use Rattle.model_defs.specs.Settled.{Part, item_writes, value_writes, name_written, untagged_writes, body_writes, container_writes, item_writers, member_writers, type_writes, content_writes, is_empty_at}
-use Rattle.model_defs.specs.Reach.{asked, asked_by_content, asked_by_variants, asked_by_body, asked_by, is_among, NoneReachesItself}
-use Rattle.model_defs.proofs.Reach.{Ends, all_end, left_among, right_among, lone_among}
-use Rattle.model_defs.proofs.Rows.{reads-level}
 use Rattle.typed_defs.specs.Typed as typed
 use Rattle.typed_defs.specs.Typed.{Typed, typeds, pairs}
 use Rattle.typed_defs.specs.Written.{written, counts_as_empty}
@@ -25,7 +22,6 @@ use Rattle.reading_defs.proofs.Good.{ContentIsGood}
 use Rattle.reading_defs.proofs.Parts.{Part', Entry, IsTextual, contents_written, takes_of, seen_of, part_of, reader_of, takes_at, seen_at, part_at, reader_at}
 use Rattle.reading_defs.proofs.Types.{Inside, none_inside, items_inside, members_inside, takes_in, seen_in, parts_in, readers_in, type_agrees}
 use Rattle.reading_defs.proofs.Items.{Fits, GivenIsGood, GivenSaysSame, BodySaysSame, VariantsSaySame, container_agrees, content_agrees}
-use Rattle.reading_defs.proofs.Spare.{content_same, spare_reads}
 
 -- ---- empty values
 
@@ -97,7 +93,7 @@ module _ (models : List ContainerModel) (cs : ConversionsD) (r : Relations) (q :
   empties (object ms) _ x m e = absurd (true≢false (sym m))
 
 module _ (models : List ContainerModel) (cs : ConversionsD) (r : Relations) (E : Type 0) (d : ℕ → TypeModel → Value) (q : ℕ → TypeModel → Read Typed)
-    (none : NoneReachesItself models) (good : (n : List ℕ) → GivenIsGood models E d q (container_named n models)) where
+    (good : (n : List ℕ) → GivenIsGood models E d q (container_named n models)) where
   abbrev lead : TypeModel → Bool
   lead t = leads_to_option models t
 
@@ -114,54 +110,44 @@ module _ (models : List ContainerModel) (cs : ConversionsD) (r : Relations) (E :
     abbrev ir : ℕ → List ℕ → Read Typed
     ir k = item_reading models cs r q v (readers_in models E d q i) k
 
-    -- contents are read with spare items as without
-    says_same : (k : ℕ) → k ≤ allowed models → (c : Content) → ((l : List ℕ) → is_among l (asked_by_content c) ≡ true → Ends models k l)
-        → value_reads models cs r v c ≡ content_takes lead (takes_in models E d q i) (type_takes r v (takes_in models E d q i) (it k)) c
-    says_same k h c ends =
-        reads-level models cs r v c ∙ ap (λ ps. reads_within models cs r v ps (allowed models) c) parts
-        ∙ content_same lead r cs v (takes_in models E d q i) (it (allowed models)) (it k) c (λ l a. spare_reads models cs r v (takes_in models E d q i) k (allowed models) h l (ends l a))
+    abbrev reads_at : ℕ → Content → Bool
+    reads_at k c = still_reads models cs r v k c
 
-    variants_say_same : (k : ℕ) → k ≤ allowed models → (closed : Bool) (ws : List VariantModel) → ((l : List ℕ) → is_among l (asked_by_variants closed ws) ≡ true → Ends models k l)
-        → VariantsSaySame models E d q r cs (value_reads models cs r v) v i whole fits (it k) (is k) (iw k) (ir k) closed ws
-    variants_say_same k h closed [] ends = tt
-    variants_say_same k h closed (w ∷ ws) ends = (
-      says_same k h (variant_content closed w) (λ l a. ends l (left_among l (asked_by_content (variant_content closed w)) (asked_by_variants closed ws) a)),
-      variants_say_same k h closed ws (λ l a. ends l (right_among l (asked_by_content (variant_content closed w)) (asked_by_variants closed ws) a)),
-    )
+    -- what still reads contents is what its parts do
+    says_same : (k : ℕ) (c : Content) → reads_at k c ≡ content_takes lead (takes_in models E d q i) (type_takes r v (takes_in models E d q i) (it k)) c
+    says_same k c = ap (λ ps. reads_within models cs r v ps k c) parts
 
-    body_says_same : (k : ℕ) → k ≤ allowed models → (closed : Bool) (b : BodyModel) → ((l : List ℕ) → is_among l (asked_by_body closed b) ≡ true → Ends models k l)
-        → BodySaysSame models E d q r cs (value_reads models cs r v) v i whole fits (it k) (is k) (iw k) (ir k) closed b
-    body_says_same k h closed (struct_model s fs) ends = says_same k h (fields_content closed s fs) ends
-    body_says_same k h closed (enum_model untagged ws) ends = variants_say_same k h closed ws ends
-    body_says_same k h closed (enum_model external_tag ws) ends = tt
-    body_says_same k h closed (enum_model (internal_tag t) ws) ends = tt
-    body_says_same k h closed (enum_model (adjacent_tag t c) ws) ends = tt
+    variants_say_same : (k : ℕ) (closed : Bool) (ws : List VariantModel) → VariantsSaySame models E d q r cs (reads_at k) v i whole fits (it k) (is k) (iw k) (ir k) closed ws
+    variants_say_same k closed [] = tt
+    variants_say_same k closed (w ∷ ws) = (says_same k (variant_content closed w), variants_say_same k closed ws)
 
-    given_says_same : (k : ℕ) → k ≤ allowed models → (o : Option ContainerModel) → ((l : List ℕ) → is_among l (asked_by o) ≡ true → Ends models k l)
-        → GivenSaysSame models E d q r cs (value_reads models cs r v) v i whole fits (it k) (is k) (iw k) (ir k) o
-    given_says_same k h None ends = tt
-    given_says_same k h (Some m) ends = body_says_same k h m.closed m.body ends
+    body_says_same : (k : ℕ) (closed : Bool) (b : BodyModel) → BodySaysSame models E d q r cs (reads_at k) v i whole fits (it k) (is k) (iw k) (ir k) closed b
+    body_says_same k closed (struct_model s fs) = says_same k (fields_content closed s fs)
+    body_says_same k closed (enum_model untagged ws) = variants_say_same k closed ws
+    body_says_same k closed (enum_model external_tag ws) = tt
+    body_says_same k closed (enum_model (internal_tag t) ws) = tt
+    body_says_same k closed (enum_model (adjacent_tag t c) ws) = tt
 
-    item_agrees : (k : ℕ) → k ≤ allowed models → (n : List ℕ) → Ends models k n → Agrees E (it k n) (is k n) (λ x. written models (item_type n) x ≡ iw k n) (ir k n)
-    item_agrees zero h n ends = (refl, refl)
-    item_agrees (suc k) h n ends =
-        container_agrees models E d q r cs (value_reads models cs r v) v i whole fits (it k) (is k) (iw k) (ir k) n (container_named n models) refl (good n) (given_says_same k (omega arith) (container_named n models) ends)
-        (λ l a. item_agrees k (omega arith) l (ends l a))
+    given_says_same : (k : ℕ) (o : Option ContainerModel) → GivenSaysSame models E d q r cs (reads_at k) v i whole fits (it k) (is k) (iw k) (ir k) o
+    given_says_same k None = tt
+    given_says_same k (Some m) = body_says_same k m.closed m.body
 
-    any_item : (n : List ℕ) → Agrees E (it (allowed models) n) (is (allowed models) n) (λ x. written models (item_type n) x ≡ iw (allowed models) n) (ir (allowed models) n)
-    any_item n = item_agrees (allowed models) (omega arith) n (λ l a. all_end models none l)
+    item_agrees : (k : ℕ) (n : List ℕ) → Agrees E (it k n) (is k n) (λ x. written models (item_type n) x ≡ iw k n) (ir k n)
+    item_agrees zero n = (refl, refl)
+    item_agrees (suc k) n =
+        container_agrees models E d q r cs (reads_at k) v i whole fits (it k) (is k) (iw k) (ir k) n (container_named n models) refl (good n) (given_says_same k (container_named n models)) (λ l a. item_agrees k l)
 
     pub here_as_type : (t : TypeModel) → Agrees E (type_takes r v (takes_in models E d q i) (it (allowed models)) t) (type_stops (seen_in models E d q i) (is (allowed models)) t)
         (λ x. written models t x ≡ type_writes v (parts_in models E d q i) (iw (allowed models)) t) (type_read models r v (readers_in models E d q i) (ir (allowed models)) t)
-    here_as_type t = type_agrees models E d q r v i whole (it (allowed models)) (is (allowed models)) (iw (allowed models)) (ir (allowed models)) t (λ n a. any_item n)
+    here_as_type t = type_agrees models E d q r v i whole (it (allowed models)) (is (allowed models)) (iw (allowed models)) (ir (allowed models)) t (λ n a. item_agrees (allowed models) n)
 
     pub here_as_content : (c : Content) → ContentIsGood models E d q c
         → Agrees E (content_takes lead (takes_in models E d q i) (type_takes r v (takes_in models E d q i) (it (allowed models))) c)
-        (content_stops lead (value_reads models cs r v) v (seen_in models E d q i) (type_stops (seen_in models E d q i) (is (allowed models))) c)
-        (λ xs. contents_written models E d q c xs ≡ content_writes lead d (value_reads models cs r v) v (parts_in models E d q i) (type_writes v (parts_in models E d q i) (iw (allowed models))) c)
+        (content_stops lead (reads_at (allowed models)) v (seen_in models E d q i) (type_stops (seen_in models E d q i) (is (allowed models))) c)
+        (λ xs. contents_written models E d q c xs ≡ content_writes lead d (reads_at (allowed models)) v (parts_in models E d q i) (type_writes v (parts_in models E d q i) (iw (allowed models))) c)
         (content_read q (absent models) r cs v (readers_in models E d q i) (type_read models r v (readers_in models E d q i) (ir (allowed models))) c)
     here_as_content c g =
-        content_agrees models E d q r cs (value_reads models cs r v) v i whole fits (it (allowed models)) (is (allowed models)) (iw (allowed models)) (ir (allowed models)) c g (λ n a. any_item n)
+        content_agrees models E d q r cs (reads_at (allowed models)) v i whole fits (it (allowed models)) (is (allowed models)) (iw (allowed models)) (ir (allowed models)) c g (λ n a. item_agrees (allowed models) n)
 
   -- ---- names, which are read as texts, settle as texts
 
@@ -172,76 +158,67 @@ module _ (models : List ContainerModel) (cs : ConversionsD) (r : Relations) (E :
   As k s t = type_writes (text s) no_parts (item_writes models cs r d (text s) no_parts k) t
 
   module _ (s : List ℕ) where
-    abbrev Textual : ℕ → List ℕ → Type 0
-    Textual k n = item_reads models cs r (text s) no_parts k n ≡ true → IsTextual (item_writes models cs r d (text s) no_parts k n)
+    abbrev Textual : ℕ → Type 0
+    Textual k = (n : List ℕ) → item_reads models cs r (text s) no_parts k n ≡ true → IsTextual (item_writes models cs r d (text s) no_parts k n)
 
-    type_textual : (k : ℕ) (t : TypeModel) → ((n : List ℕ) → is_among n (asked t) ≡ true → Textual k n) → Of k s t ≡ true → IsTextual (As k s t)
-    type_textual k text_type items h = λ m n. refl
-    type_textual k (native_type f) items h = λ m n. refl
-    type_textual k any_type items h = λ m n. refl
-    type_textual k (option_type t) items h = type_textual k t items h
-    type_textual k (boxed_type t) items h = type_textual k t items h
-    type_textual k (item_type n) items h = items n (lone_among n) h
-    type_textual k _ items h = absurd (true≢false (sym h))
+    type_textual : (k : ℕ) → Textual k → (t : TypeModel) → Of k s t ≡ true → IsTextual (As k s t)
+    type_textual k items text_type h = λ m n. refl
+    type_textual k items (native_type f) h = λ m n. refl
+    type_textual k items any_type h = λ m n. refl
+    type_textual k items (option_type t) h = type_textual k items t h
+    type_textual k items (boxed_type t) h = type_textual k items t h
+    type_textual k items (item_type n) h = items n h
+    type_textual k items _ h = absurd (true≢false (sym h))
 
     abbrev Takes : ℕ → Content → Bool
-    Takes k c = content_takes lead no_parts (Of k s) c
+    Takes k c = still_reads models cs r (text s) k c
 
     abbrev Writes : ℕ → Content → Value
-    Writes k c = content_writes lead d (value_reads models cs r (text s)) (text s) no_parts (As k s) c
+    Writes k c = content_writes lead d (Takes k) (text s) no_parts (As k s) c
 
-    content_textual : (k : ℕ) (c : Content) → ((n : List ℕ) → is_among n (asked_by_content c) ≡ true → Textual k n) → Takes k c ≡ true → IsTextual (Writes k c)
-    content_textual k (one_type t) items h = type_textual k t items h
-    content_textual k (places ts) items h = absurd (true≢false (sym h))
-    content_textual k (named_fields closed fs) items h = absurd (true≢false (sym h))
+    content_textual : (k : ℕ) → Textual k → (c : Content) → Takes k c ≡ true → IsTextual (Writes k c)
+    content_textual k items (one_type t) h = type_textual k items t h
+    content_textual k items (places ts) h = absurd (true≢false (sym h))
+    content_textual k items (named_fields closed fs) h = absurd (true≢false (sym h))
 
-    name_textual : (k : ℕ) (o : Option VariantModel) → is_unit_named o ≡ true → IsTextual (name_written lead d (value_reads models cs r (text s)) (text s) no_parts (As k s) o)
+    name_textual : (k : ℕ) (o : Option VariantModel) → is_unit_named o ≡ true → IsTextual (name_written lead d (Takes k) (text s) no_parts (As k s) o)
     name_textual k None h = absurd (true≢false (sym h))
     name_textual k (Some w) h = λ m n. refl
 
-    untagged_textual : (k : ℕ) → k ≤ allowed models → (closed : Bool) (ws : List VariantModel) → ((l : List ℕ) → is_among l (asked_by_variants closed ws) ≡ true → Ends models k l)
-        → ((l : List ℕ) → is_among l (asked_by_variants closed ws) ≡ true → Textual k l) → list_any (λ w. Takes k (variant_content closed w)) ws ≡ true
-        → IsTextual (untagged_writes lead d (value_reads models cs r (text s)) (text s) no_parts (As k s) closed ws)
-    untagged_textual k le closed [] ends items h = absurd (true≢false (sym h))
-    untagged_textual k le closed (w ∷ ws) ends items h =
-        let c = variant_content closed w in
-        let first = λ (l : List ℕ) (a : is_among l (asked_by_content c) ≡ true). left_among l (asked_by_content c) (asked_by_variants closed ws) a in
-        by (Takes k c) refl (says_same (text s) none_inside refl tt refl k le c (λ l a. ends l (first l a))) (content_textual k c (λ l a. items l (first l a)))
-        (untagged_textual k le closed ws (λ l a. ends l (right_among l (asked_by_content c) (asked_by_variants closed ws) a)) (λ l a. items l (right_among l (asked_by_content c) (asked_by_variants closed ws) a)))
+    untagged_textual : (k : ℕ) → Textual k → (closed : Bool) (ws : List VariantModel) → list_any (λ w. Takes k (variant_content closed w)) ws ≡ true
+        → IsTextual (untagged_writes lead d (Takes k) (text s) no_parts (As k s) closed ws)
+    untagged_textual k items closed [] h = absurd (true≢false (sym h))
+    untagged_textual k items closed (w ∷ ws) h = by (Takes k (variant_content closed w)) (content_textual k items (variant_content closed w)) (untagged_textual k items closed ws) refl h
       where
-        by : (b : Bool) → Takes k (variant_content closed w) ≡ b → value_reads models cs r (text s) (variant_content closed w) ≡ Takes k (variant_content closed w)
-            → (Takes k (variant_content closed w) ≡ true → IsTextual (Writes k (variant_content closed w)))
-            → (list_any (λ u. Takes k (variant_content closed u)) ws ≡ true → IsTextual (untagged_writes lead d (value_reads models cs r (text s)) (text s) no_parts (As k s) closed ws))
-            → IsTextual (cond (value_reads models cs r (text s) (variant_content closed w)) (Writes k (variant_content closed w)) (untagged_writes lead d (value_reads models cs r (text s)) (text s) no_parts (As k s) closed ws))
-        by true e same f g = subst (λ b. IsTextual (cond b (Writes k (variant_content closed w)) (untagged_writes lead d (value_reads models cs r (text s)) (text s) no_parts (As k s) closed ws))) (sym (same ∙ e)) (f e)
-        by false e same f g =
-            subst (λ b. IsTextual (cond b (Writes k (variant_content closed w)) (untagged_writes lead d (value_reads models cs r (text s)) (text s) no_parts (As k s) closed ws))) (sym (same ∙ e))
-            (g (ap (λ b. b || list_any (λ u. Takes k (variant_content closed u)) ws) (sym e) ∙ h))
+        by : (b : Bool) → (Takes k (variant_content closed w) ≡ true → IsTextual (Writes k (variant_content closed w)))
+            → (list_any (λ u. Takes k (variant_content closed u)) ws ≡ true → IsTextual (untagged_writes lead d (Takes k) (text s) no_parts (As k s) closed ws)) → Takes k (variant_content closed w) ≡ b
+            → (b || list_any (λ u. Takes k (variant_content closed u)) ws) ≡ true
+            → IsTextual (cond b (Writes k (variant_content closed w)) (untagged_writes lead d (Takes k) (text s) no_parts (As k s) closed ws))
+        by true f g e z = f e
+        by false f g e z = g z
 
-    body_textual : (k : ℕ) → k ≤ allowed models → (closed : Bool) (b : BodyModel) → ((l : List ℕ) → is_among l (asked_by_body closed b) ≡ true → Ends models k l)
-        → ((l : List ℕ) → is_among l (asked_by_body closed b) ≡ true → Textual k l) → body_takes lead no_parts (Of k s) closed b (text s) ≡ true
-        → IsTextual (body_writes lead d (value_reads models cs r (text s)) (text s) no_parts (As k s) closed b)
-    body_textual k le closed (struct_model struct_style fs) ends items h = absurd (true≢false (sym h))
-    body_textual k le closed (struct_model newtype_style fs) ends items h = content_textual k (fields_content closed newtype_style fs) items h
-    body_textual k le closed (struct_model tuple_style fs) ends items h = absurd (true≢false (sym h))
-    body_textual k le closed (struct_model unit_style fs) ends items h = absurd (true≢false (sym h))
-    body_textual k le closed (enum_model external_tag ws) ends items h = name_textual k (variant_named s ws) h
-    body_textual k le closed (enum_model (internal_tag tag) ws) ends items h = absurd (true≢false (sym h))
-    body_textual k le closed (enum_model (adjacent_tag tag content) ws) ends items h = absurd (true≢false (sym h))
-    body_textual k le closed (enum_model untagged ws) ends items h = untagged_textual k le closed ws ends items h
+    body_textual : (k : ℕ) → Textual k → (closed : Bool) (b : BodyModel) → body_takes lead no_parts (Of k s) closed b (text s) ≡ true
+        → IsTextual (body_writes lead d (Takes k) (text s) no_parts (As k s) closed b)
+    body_textual k items closed (struct_model struct_style fs) h = absurd (true≢false (sym h))
+    body_textual k items closed (struct_model newtype_style fs) h = content_textual k items (fields_content closed newtype_style fs) h
+    body_textual k items closed (struct_model tuple_style fs) h = absurd (true≢false (sym h))
+    body_textual k items closed (struct_model unit_style fs) h = absurd (true≢false (sym h))
+    body_textual k items closed (enum_model external_tag ws) h = name_textual k (variant_named s ws) h
+    body_textual k items closed (enum_model (internal_tag tag) ws) h = absurd (true≢false (sym h))
+    body_textual k items closed (enum_model (adjacent_tag tag content) ws) h = absurd (true≢false (sym h))
+    body_textual k items closed (enum_model untagged ws) h = untagged_textual k items closed ws h
 
-    given_textual : (k : ℕ) → k ≤ allowed models → (o : Option ContainerModel) → ((l : List ℕ) → is_among l (asked_by o) ≡ true → Ends models k l)
-        → ((l : List ℕ) → is_among l (asked_by o) ≡ true → Textual k l) → container_takes lead no_parts (Of k s) r cs (text s) o ≡ true
-        → IsTextual (container_writes lead d (value_reads models cs r (text s)) (text s) no_parts (As k s) o)
-    given_textual k le None ends items h = absurd (true≢false (sym h))
-    given_textual k le (Some m) ends items h = body_textual k le m.closed m.body ends items (and_left (body_takes lead no_parts (Of k s) m.closed m.body (text s)) _ h)
+    given_textual : (k : ℕ) → Textual k → (o : Option ContainerModel) → container_takes lead no_parts (Of k s) r cs (text s) o ≡ true
+        → IsTextual (container_writes lead d (Takes k) (text s) no_parts (As k s) o)
+    given_textual k items None h = absurd (true≢false (sym h))
+    given_textual k items (Some m) h = body_textual k items m.closed m.body (and_left (body_takes lead no_parts (Of k s) m.closed m.body (text s)) _ h)
 
-    item_textual : (k : ℕ) → k ≤ allowed models → (n : List ℕ) → Ends models k n → Textual k n
-    item_textual zero le n ends h = absurd (true≢false (sym h))
-    item_textual (suc k) le n ends h = given_textual k (omega arith) (container_named n models) ends (λ l a. item_textual k (omega arith) l (ends l a)) h
+    item_textual : (k : ℕ) → Textual k
+    item_textual zero n h = absurd (true≢false (sym h))
+    item_textual (suc k) n h = given_textual k (item_textual k) (container_named n models) h
 
     pub textual : (t : TypeModel) → Of (allowed models) s t ≡ true → IsTextual (As (allowed models) s t)
-    textual t = type_textual (allowed models) t (λ n a. item_textual (allowed models) (omega arith) n (λ l b. all_end models none l))
+    textual t = type_textual (allowed models) (item_textual (allowed models)) t
 
   -- ---- by the parts of the value
 
@@ -250,8 +227,8 @@ module _ (models : List ContainerModel) (cs : ConversionsD) (r : Relations) (E :
         (λ x. written models t x ≡ type_writes v pp (item_writes models cs r d v pp (allowed models)) t) (type_read models r v pr (item_reading models cs r q v pr (allowed models)) t)
     pub as_content : (c : Content) → ContentIsGood models E d q c
         → Agrees E (content_takes lead pj (type_takes r v pj (item_reads models cs r v pj (allowed models))) c)
-        (content_stops lead (value_reads models cs r v) v ps (type_stops ps (item_stops models cs r v ps (allowed models))) c)
-        (λ xs. contents_written models E d q c xs ≡ content_writes lead d (value_reads models cs r v) v pp (type_writes v pp (item_writes models cs r d v pp (allowed models))) c)
+        (content_stops lead (still_reads models cs r v (allowed models)) v ps (type_stops ps (item_stops models cs r v ps (allowed models))) c)
+        (λ xs. contents_written models E d q c xs ≡ content_writes lead d (still_reads models cs r v (allowed models)) v pp (type_writes v pp (item_writes models cs r d v pp (allowed models))) c)
         (content_read q (absent models) r cs v pr (type_read models r v pr (item_reading models cs r q v pr (allowed models))) c)
 
   here : (v : Value) (i : Inside (Part' models E d q) (Entry models E d q)) (whole : has_json_numbers v ≡ true) (fits : Fits models E d q v i) (parts : parts_of models cs r v ≡ takes_in models E d q i)

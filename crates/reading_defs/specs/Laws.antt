@@ -9,7 +9,6 @@ use Rattle.model_defs.specs.Model.{DefaultModel, no_default, own_default, stated
 use Rattle.model_defs.specs.Reads.{reads}
 use Rattle.model_defs.specs.Refusals.{refused_at}
 use Rattle.model_defs.specs.Settled.{settled}
-use Rattle.model_defs.specs.Reach.{NoneReachesItself}
 use Rattle.typed_defs.specs.Typed.{Typed}
 use Rattle.typed_defs.specs.Written.{written}
 use Rattle.typed_defs.specs.Fit.{are_models_fit}
@@ -39,14 +38,13 @@ module _ (models : List ContainerModel) (conversions : ConversionsD) (relations 
   abbrev pub defaults_are_sound : Bool
   defaults_are_sound = list_all (λ m. body_is_sound m.body) models
 
-  -- within the forms; and no item reaches itself at one value
+  -- within the forms, and with sound defaults
   pub record IsProper : Type 0 where
     pub fit : are_models_fit models ≡ true
     pub shapes : have_shapes models ≡ true
     pub rules : are_rules_fit models ≡ true
     pub numbers : list_all has_json_numbers conversions.defaults ≡ true
     pub sound : defaults_are_sound ≡ true
-    pub none_reaches_itself : NoneReachesItself models
 
 -- ---- the law
 

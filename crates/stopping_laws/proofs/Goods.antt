@@ -1,7 +1,6 @@
 -- Fields whose stated defaults are sound, and what a reading would be written as.
 use Rattle.std.proofs.Common.{◌≡◌, ℕ, List, Bool, true, false, sym, ap, ◌∙◌, refl, true≢false}
 use Rattle.json_value.specs.Value.{Value, null}
-use Rattle.schema_defs.specs.Location.{Location}
 use Rattle.schema_defs.specs.Texts.{Relations}
 use Rattle.model_defs.specs.Types.{TypeModel}
 use Rattle.model_defs.specs.Model.{stated_default, FieldModel, ContainerModel, ConversionsD}
@@ -10,7 +9,6 @@ use Rattle.typed_defs.specs.Written.{written}
 use Rattle.typed_defs.specs.Fit.{is_field_fit}
 use Rattle.reading_defs.specs.Reading.{Read, taken, stopped, unsound}
 use Rattle.reading_defs.specs.Laws.{is_taken, is_sound}
-use Rattle.reading_defs.proofs.Agree.{Agrees}
 use Rattle.reading_defs.proofs.Good.{SoundAt, FieldIsGood}
 
 -- ---- what is read, written
@@ -19,24 +17,6 @@ abbrev pub put_of : List ContainerModel → TypeModel → Read Typed → Value
 put_of ms t (taken x) = written ms t x
 put_of ms t (stopped l) = null
 put_of ms t unsound = null
-
--- a taken value is what was read
-pub only_taken : {A : Type 0} → (P : A → Type 0) (t : Bool) (s : Location) (r : Read A) → Agrees ⊥ t s P r → Agrees ⊥ t s (λ x. r ≡ taken x) r
-only_taken P t s (taken x) h = (h.0, refl)
-only_taken P t s (stopped l) h = h
-only_taken P t s unsound h = h
-
--- other stops, that are the same where the value is refused
-pub stops_along : {A : Type 0} → (P : A → Type 0) (t : Bool) (s p : Location) (r : Read A) → (t ≡ false → s ≡ p) → Agrees ⊥ t s P r → Agrees ⊥ t p P r
-stops_along P t s p (taken x) f h = h
-stops_along P t s p (stopped l) f h = (h.0, sym (f h.0) ∙ h.1)
-stops_along P t s p unsound f h = h
-
--- what is read is taken
-pub taken_where : {A : Type 0} → (P : A → Type 0) (s : Location) (r : Read A) → Agrees ⊥ true s P r → (x : A) × (r ≡ taken x) × P x
-taken_where P s (taken x) h = (x, refl, h.1)
-taken_where P s (stopped l) h = absurd (true≢false h.0)
-taken_where P s unsound h = absurd h
 
 -- ---- good fields
 

@@ -1,5 +1,2 @@
 pub mod Goods
-pub mod Grows
-pub mod Stops
-pub mod Texts
 pub mod Values

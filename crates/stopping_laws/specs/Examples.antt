@@ -26,13 +26,13 @@ ones = list_of (whole 1 ∷ whole 1 ∷ [])
 abbrev pub once_round : Typed
 once_round = the_variant 0 (newtype (the_variant 1 (list (number 1 ∷ []) ∷ [])) ∷ [])
 
--- what reads and where it stops agree with reading; what settles doesn't agree with what is written
+-- what reads, where it stops and what it settles to agree with reading
 pub record Rounds : Type 0 where
   pub within : IsWithinForms round free texts
   pub read : reads round free texts t ones ≡ true
   pub taken_once : reading round free texts t ones ≡ taken once_round
-  pub written_apart : written round t once_round ≡ list_of (whole 1 ∷ [])
-  pub settled_as_it_was : settled round free texts t ones ≡ ones
+  pub written_once : written round t once_round ≡ list_of (whole 1 ∷ [])
+  pub settled_once : settled round free texts t ones ≡ list_of (whole 1 ∷ [])
   pub refused : reads round free texts t null ≡ false
   pub refused_itself : refused_at round free texts t null ≡ []
   pub stopped_itself : reading round free texts t null ≡ stopped []

@@ -1,4 +1,4 @@
--- Where reading stops, in tables whose items may reach themselves at one value.
+-- Where reading stops, whatever numbers the stated defaults hold.
 use Rattle.std.specs.Prelude.{◌≡◌, List, Bool, true, false}
 use Rattle.json_value.specs.Value.{Value}
 use Rattle.schema_defs.specs.Location.{Location}

@@ -1,4 +1,4 @@
-//! Where reading stops, in tables whose items may reach themselves.
+//! Where reading stops, whatever numbers the stated defaults hold.
 #![tactic(auto)]
 
 pub mod examples;

@@ -10,10 +10,9 @@ use Rattle.model_defs.specs.Model.{ContainerModel, ConversionsD}
 use Rattle.model_defs.specs.Reads.{reads}
 use Rattle.model_defs.specs.Refusals.{refused_at}
 use Rattle.model_defs.specs.Settled.{settled}
-use Rattle.model_defs.specs.Reach.{NoneReachesItself}
 use Rattle.reading_defs.specs.Proper.{has_json_numbers}
 use Rattle.schema_tree.specs.Numbers.{are_i64, holds_i64_alone}
-use Rattle.derive_model.specs.Judging.{AreSound, IsVerdict}
+use Rattle.derive_model.specs.Judging.{IsVerdict}
 use Rattle.derive_model.specs.VerdictView.{VerdictD, taken, refused}
 use Rattle.typify_run.specs.Verdicts.{AreVerdicts}
 use Rattle.typify_run.specs.Headline.{IsJudged, AreJudged}
@@ -47,43 +46,43 @@ i64_at f [] i x h k = absurd (omega (arith, k))
 i64_at f (y ∷ ys) zero x h k = (both_true (holds_i64_alone (value_of (f y))) (are_i64 (map f ys)) h).0
 i64_at f (y ∷ ys) (suc i) x h k = i64_at f ys i x (both_true (holds_i64_alone (value_of (f y))) (are_i64 (map f ys)) h).1 (omega (arith, k))
 
--- ---- what verdicts say, where no item reaches itself
+-- ---- what verdicts say
 
-pub said : (ms : List ContainerModel) (cs : ConversionsD) (r : Relations) (t : TypeModel) (d : Data) (v : VerdictD) → NoneReachesItself ms
+pub said : (ms : List ContainerModel) (cs : ConversionsD) (r : Relations) (t : TypeModel) (d : Data) (v : VerdictD)
     → IsVerdict ms cs r t (value_of d) v → IsJudged (reads ms cs r t) (settled ms cs r t) (refused_at ms cs r t) d v
-said ms cs r t d (taken w) none h = (h.0, h.2 none)
-said ms cs r t d (refused l) none h = h
+said ms cs r t d (taken w) h = (h.0, h.2)
+said ms cs r t d (refused l) h = h
 
-all_said : (ms : List ContainerModel) (cs : ConversionsD) (r : Relations) (t : TypeModel) (ds : List Data) (vs : List VerdictD) → NoneReachesItself ms
+all_said : (ms : List ContainerModel) (cs : ConversionsD) (r : Relations) (t : TypeModel) (ds : List Data) (vs : List VerdictD)
     → AreVerdicts ms cs r t ds vs → AreJudged (reads ms cs r t) (settled ms cs r t) (refused_at ms cs r t) ds vs
-all_said ms cs r t [] [] none h = tt
-all_said ms cs r t [] (v ∷ vs) none h = absurd h
-all_said ms cs r t (d ∷ ds) [] none h = absurd h
-all_said ms cs r t (d ∷ ds) (v ∷ vs) none h = (said ms cs r t d v none h.0, all_said ms cs r t ds vs none h.1)
+all_said ms cs r t [] [] h = tt
+all_said ms cs r t [] (v ∷ vs) h = absurd h
+all_said ms cs r t (d ∷ ds) [] h = absurd h
+all_said ms cs r t (d ∷ ds) (v ∷ vs) h = (said ms cs r t d v h.0, all_said ms cs r t ds vs h.1)
 
 -- by containers and a type that are the same
-pub judged_alike : (ms ns : List ContainerModel) (cs : ConversionsD) (r : Relations) (t u : TypeModel) (ds : List Data) (vs : List VerdictD) → NoneReachesItself ms → ns ≡ ms → u ≡ t
+pub judged_alike : (ms ns : List ContainerModel) (cs : ConversionsD) (r : Relations) (t u : TypeModel) (ds : List Data) (vs : List VerdictD) → ns ≡ ms → u ≡ t
     → AreVerdicts ms cs r t ds vs → AreJudged (reads ns cs r u) (settled ns cs r u) (refused_at ns cs r u) ds vs
-judged_alike ms ns cs r t u ds vs none e f h =
+judged_alike ms ns cs r t u ds vs e f h =
     subst (λ ks. AreJudged (reads ks cs r u) (settled ks cs r u) (refused_at ks cs r u) ds vs) (sym e)
-    (subst (λ x. AreJudged (reads ms cs r x) (settled ms cs r x) (refused_at ms cs r x) ds vs) (sym f) (all_said ms cs r t ds vs none h))
+    (subst (λ x. AreJudged (reads ms cs r x) (settled ms cs r x) (refused_at ms cs r x) ds vs) (sym f) (all_said ms cs r t ds vs h))
 
 pub verdicts_alike : (ms ns : List ContainerModel) (cs es : ConversionsD) (r : Relations) (t : TypeModel) (ds : List Data) (vs : List VerdictD) → ms ≡ ns → cs ≡ es → AreVerdicts ms cs r t ds vs → AreVerdicts ns es r t ds vs
 verdicts_alike ms ns cs es r t ds vs e f h = subst (λ ks. AreVerdicts ks es r t ds vs) e (subst (λ k. AreVerdicts ms k r t ds vs) f h)
 
 -- ---- what is written is printed
 
-pub printed : (ms : List ContainerModel) (cs : ConversionsD) (r : Relations) (t : TypeModel) (d : Data) (v : VerdictD) → NoneReachesItself ms → list_all has_json_numbers cs.defaults ≡ true
+pub printed : (ms : List ContainerModel) (cs : ConversionsD) (r : Relations) (t : TypeModel) (d : Data) (v : VerdictD) → list_all has_json_numbers cs.defaults ≡ true
     → holds_i64_alone (value_of d) ≡ true → IsVerdict ms cs r t (value_of d) v → IsPrintable v
-printed ms cs r t d (taken w) none n i h =
-    no_float w (ap has_json_numbers (h.2 none) ∙ settled_numbers ms cs r n t (value_of d) (json_numbers (value_of d) i))
-printed ms cs r t d (refused l) none n i h = tt
+printed ms cs r t d (taken w) n i h =
+    no_float w (ap has_json_numbers h.2 ∙ settled_numbers ms cs r n t (value_of d) (json_numbers (value_of d) i))
+printed ms cs r t d (refused l) n i h = tt
 
-pub printable : (ms : List ContainerModel) (cs : ConversionsD) (r : Relations) (t : TypeModel) (ds : List Data) (vs : List VerdictD) → NoneReachesItself ms → list_all has_json_numbers cs.defaults ≡ true
+pub printable : (ms : List ContainerModel) (cs : ConversionsD) (r : Relations) (t : TypeModel) (ds : List Data) (vs : List VerdictD) → list_all has_json_numbers cs.defaults ≡ true
     → are_i64 ds ≡ true → AreVerdicts ms cs r t ds vs → ArePrintable vs
-printable ms cs r t [] [] none n i h = tt
-printable ms cs r t [] (v ∷ vs) none n i h = absurd h
-printable ms cs r t (d ∷ ds) [] none n i h = absurd h
-printable ms cs r t (d ∷ ds) (v ∷ vs) none n i h =
+printable ms cs r t [] [] n i h = tt
+printable ms cs r t [] (v ∷ vs) n i h = absurd h
+printable ms cs r t (d ∷ ds) [] n i h = absurd h
+printable ms cs r t (d ∷ ds) (v ∷ vs) n i h =
     let whole = both_true (holds_i64_alone (value_of d)) (are_i64 ds) i in
-    (printed ms cs r t d v none n whole.0 h.0, printable ms cs r t ds vs none n whole.1 h.1)
+    (printed ms cs r t d v n whole.0 h.0, printable ms cs r t ds vs n whole.1 h.1)

@@ -4,6 +4,7 @@ pub mod Verdicts
 pub mod Numbers
 pub mod Judged
 pub mod SettledNumbers
+pub mod Once
 pub mod Reported
 pub mod Causes
 pub mod Calls

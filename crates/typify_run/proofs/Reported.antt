@@ -11,10 +11,13 @@ use Rattle.attr_defs.specs.Texts.{lexed}
 use Rattle.container_defs.specs.Forms.{is_known, names_of, are_inside}
 use Rattle.container_defs.specs.Model.{diagnostics_of}
 use Rattle.type_spellings.specs.Types.{type_of}
-use Rattle.model_defs.specs.Model.{ContainerModel}
+use Rattle.model_defs.specs.Types.{TypeModel}
+use Rattle.model_defs.specs.Model.{ContainerModel, ConversionsD}
 use Rattle.model_defs.specs.Reach.{NoneReachesItself}
 use Rattle.model_defs.specs.Reads.{reads}
+use Rattle.model_defs.specs.Settled.{settled}
 use Rattle.reading_defs.specs.Proper.{has_json_numbers}
+use Rattle.reading_defs.specs.Reading.{reading}
 use Rattle.schema_tree.specs.Conversions.{conversions_view}
 use Rattle.schema_tree.specs.Document.{IsReadAs}
 use Rattle.schema_tree.specs.Numbers.{are_i64}
@@ -38,12 +41,18 @@ use Rattle.derive_model.specs.VerdictView.{verdict_view}
 use Rattle.convert_document.specs.Note.{way_of, note_of}
 use Rattle.convert_document.specs.Emitted.{emission_of}
 use Rattle.reading_defs.specs.Laws.{defaults_are_sound}
+use Rattle.writing_laws.specs.Kinds.{untagged_are_apart}
+use Rattle.writing_laws.specs.Tables.{IsOrdered, AllOrdered}
+use Rattle.emitted_back.proofs.Back.{emitted_is_proper, emitted_settled_is_read_alike}
+use Rattle.apart_laws.proofs.Tables.{plans_are_written_apart}
 use Rattle.typify_run.specs.Headline as headline
 use Rattle.typify_run.specs.Headline.{Deriving, read_of, items_of, HasNone, IsNarrowed, IsWidened, report_reads, document_admits, IsReportOf}
 use Rattle.typify_run.specs.Page.{ArePrintable}
-use Rattle.typify_run.specs.Examine.{as_it_stands, is_none_of, CanJudge, IsMadeOf}
+use Rattle.typify_run.specs.Examine.{as_it_stands, is_none_of, IsSettledBy, CanJudge, IsMadeOf, SettlesOnce}
 use Rattle.typify_run.specs.declared.report.Report.{Report}
 use Rattle.typify_run.proofs.Judged.{judged_alike, printable}
+use Rattle.typify_run.proofs.Once.{once}
+use Rattle.typify_run.proofs.SettledNumbers.{settled_numbers}
 
 -- ---- lists
 
@@ -140,6 +149,27 @@ module _ (r : Relations) (d : Document) (depth : ℕ) (values : List Data) (repo
   noteless : report.notes.items ≡ [] → told_notes ≡ []
   noteless e = none_of_none note_of told_notes (sym h.notes ∙ e)
 
+  sound_as : (how : Deriving) → defaults_are_sound (headline.models_of how report) (conversions_view report.conversions) r ≡ true
+  sound_as how = ap (λ (ms : List ContainerModel). defaults_are_sound ms (conversions_view report.conversions) r) (same_models how ∙ sym (same_models as_it_stands)) ∙ h.sound.sound
+
+  -- what is said of containers and a table of conversions that are those of the plan
+  abbrev IsOnce : List ContainerModel → ConversionsD → TypeModel → Type 0
+  IsOnce ms cs t =
+      untagged_are_apart ms ≡ true → list_all has_json_numbers cs.defaults ≡ true → AllOrdered cs.defaults → defaults_are_sound ms cs r ≡ true
+      → (v : Value) → has_json_numbers v ≡ true → IsOrdered v → reads ms cs r t v ≡ true
+      → IsSettledBy (reads ms cs r t) (settled ms cs r t) (settled ms cs r t v) × (reading ms cs r t (settled ms cs r t v) ≡ reading ms cs r t v)
+
+  planned_once : (t : TypeModel) → IsOnce (models_of plan) emitted.conversions t
+  planned_once t kinds numbers ordered sound v n o e =
+      let apart = plans_are_written_apart r d depth most_levels w kinds numbers ordered in
+      let same = emitted_settled_is_read_alike plan emittable apart r sound t v n o e in
+      (once (models_of plan) emitted.conversions r (emitted_is_proper plan emittable apart r sound) t v n (settled_numbers (models_of plan) emitted.conversions r numbers t v n) same e, same)
+
+  once_as : (how : Deriving) → IsOnce (headline.models_of how report) (conversions_view report.conversions) (headline.root_of report)
+  once_as how =
+      subst (λ (ms : List ContainerModel). IsOnce ms (conversions_view report.conversions) (headline.root_of report)) (sym (same_models how))
+      (subst (λ (k : Emission). IsOnce (models_of plan) k.conversions (headline.root_of report)) (sym h.emission) (planned_once (headline.root_of report)))
+
   pub reported : (setting : Setting) (schema : Value) → IsReadAs setting schema d → IsReportOf setting r schema values report
   reported setting schema read = record {
     document = d;
@@ -150,17 +180,16 @@ module _ (r : Relations) (d : Document) (depth : ℕ) (values : List Data) (repo
         (keeps lawful narrowed (free_of_none narrowed told_notes (noteless e)) how v s) (keeps lawful widened (free_of_none widened told_notes (noteless e)) how v s);
     not_narrower = λ lawful n how v s. keeps lawful narrowed (free_narrowed told_notes (subst (HasNone IsNarrowed) h.notes n)) how v s;
     not_wider = λ lawful n how v s. keeps lawful widened (free_widened told_notes (subst (HasNone IsWidened) h.notes n)) how v s;
-    sound = λ how.
-        ap (λ (ms : List ContainerModel). defaults_are_sound ms (conversions_view report.conversions) r) (same_models how ∙ sym (same_models as_it_stands)) ∙ h.sound.sound;
+    sound = λ how. sound_as how;
     verdicts = λ how.
         judged_alike (read_of as_it_stands (items_of report)) (headline.models_of how report) (conversions_view report.conversions) r (headline.root_of report) (headline.root_of report) values (map verdict_view report.verdicts.items)
-        ends (same_models how ∙ sym (same_models as_it_stands)) refl h.verdicts;
+        (same_models how ∙ sym (same_models as_it_stands)) refl h.verdicts;
   }
 
   pub all_printable : are_i64 values ≡ true → ArePrintable (map verdict_view report.verdicts.items)
   all_printable i =
       printable (read_of as_it_stands (items_of report)) (conversions_view report.conversions) r (headline.root_of report) values (map verdict_view report.verdicts.items)
-      ends h.sound.numbers i h.verdicts
+      h.sound.numbers i h.verdicts
 
   pub can_judge : CanJudge r report
   can_judge = record {
@@ -174,3 +203,6 @@ module _ (r : Relations) (d : Document) (depth : ℕ) (values : List Data) (repo
         subst (λ (k : Emission). is_known (names_of k.items) (type_of k.root) ≡ true) (sym h.emission)
         (roots_are_read functions_are_read types_are_read_again plan emittable (root_of plan) (trees_are_roots plan emittable).0).0;
   }
+
+  pub settles_once : SettlesOnce r report
+  settles_once how apart v n o e = once_as how apart h.sound.numbers h.ordered (sound_as how) v n o e

@@ -16,7 +16,7 @@ use Rattle.schema_defs.specs.Texts.{Relations}
 use Rattle.model_defs.specs.Types.{TypeModel, boolean_type, integer_type, text_type, native_type, any_type, unit_type, option_type, boxed_type, vec_type, set_type, map_type, tuple_type, array_type, item_type, outside_type, types_of}
 use Rattle.model_defs.specs.Model.{DefaultModel, no_default, own_default, stated_default, FieldModel, VariantModel, external_tag, internal_tag, adjacent_tag, untagged, BodyModel, struct_model, enum_model, ContainerModel, ConversionsD, container_named, variant_named}
 use Rattle.model_defs.specs.Layer.{Content, one_type, places, named_fields, MemberPart, Parts, no_parts, list_parts, object_parts, is_null, own_members, other_members, unnamed_members, without, named, members_in, present_type, fields_content, variant_content, is_unit, tagged_variant}
-use Rattle.model_defs.specs.Reads.{allowed, leads_to_option, value_reads}
+use Rattle.model_defs.specs.Reads.{allowed, leads_to_option, still_reads}
 use Rattle.model_defs.specs.Settled.{Part, placed, put, put_all, firsts_after, each_written, places_written, by_places, entries_written, is_empty_at, missing_written, field_written, map_written, fields_written, rests_written, struct_written, type_writes, content_writes, name_written, member_written, external_writes, internal_writes, contents_written, adjacent_writes, untagged_writes, body_writes, container_writes, or_null, item_writes, writes_within, value_writes, item_writers, member_writers, default_at, settled_inside, settled}
 use Rattle.reading_defs.specs.Proper.{has_json_numbers, items_have_json_numbers, members_have_json_numbers}
 use Rattle.typify_run.proofs.Numbers.{left, right, both}
@@ -306,12 +306,12 @@ module _ (models : List ContainerModel) (cs : ConversionsD) (r : Relations) wher
     item_so : (v : Value) → N v → (parts : Parts Part) → PartsWrite parts → (k : ℕ) (n : List ℕ) → N (item_writes models cs r default_of v parts k n)
     item_so v whole parts p zero n = whole
     item_so v whole parts p (suc k) n =
-        container_so v whole parts p (leads_to_option models) default_of default_so (value_reads models cs r v) (type_writes v parts (item_writes models cs r default_of v parts k))
+        container_so v whole parts p (leads_to_option models) default_of default_so (still_reads models cs r v k) (type_writes v parts (item_writes models cs r default_of v parts k))
         (type_so v whole parts p (item_writes models cs r default_of v parts k) (item_so v whole parts p k)) (container_named n models)
 
     within_so : (v : Value) → N v → (parts : Parts Part) → PartsWrite parts → (k : ℕ) (c : Content) → N (writes_within models cs r default_of v parts k c)
     within_so v whole parts p k c =
-        content_so v whole parts p (leads_to_option models) default_of default_so (value_reads models cs r v) (type_writes v parts (item_writes models cs r default_of v parts k))
+        content_so v whole parts p (leads_to_option models) default_of default_so (still_reads models cs r v k) (type_writes v parts (item_writes models cs r default_of v parts k))
         (type_so v whole parts p (item_writes models cs r default_of v parts k) (item_so v whole parts p k)) c
 
     mutual

@@ -17,6 +17,11 @@ use Rattle.convert_document.specs.Levels.{most_levels}
 use Rattle.convert_document.specs.Note.{note_of}
 use Rattle.convert_document.specs.Emitted.{emission_of}
 use Rattle.convert_document.specs.Unread.{unread_in_document}
+use Rattle.typed_defs.specs.Typed.{Typed}
+use Rattle.reading_defs.specs.Proper.{has_json_numbers}
+use Rattle.reading_defs.specs.Reading.{Read, reading}
+use Rattle.writing_laws.specs.Kinds.{untagged_are_apart}
+use Rattle.writing_laws.specs.Tables.{IsOrdered, AllOrdered}
 use Rattle.derive_model.specs.Judging.{AreSound}
 use Rattle.convert_document.specs.Refused as convert
 use Rattle.schema_tree.specs.Conversions.{conversions_view}
@@ -24,7 +29,7 @@ use Rattle.attr_parts.specs.declared.derive.Derive.TheVariants.{Deserialize}
 use Rattle.derive_model.specs.Items.{private}
 use Rattle.derive_model.specs.VerdictView.{verdict_view}
 use Rattle.typify_run.specs.Verdicts.{AreVerdicts}
-use Rattle.typify_run.specs.Headline.{Deriving, read_of, items_of, models_of, root_of, emission_in}
+use Rattle.typify_run.specs.Headline.{Deriving, read_of, items_of, models_of, root_of, emission_in, report_reads, report_settles}
 use Rattle.typify_run.specs.declared.report.Report.{Report}
 
 abbrev pub is_none_of : {A : Type 0} → List A → Bool
@@ -69,6 +74,7 @@ pub record IsMadeOf (r : Relations) (d : Document) (depth : ℕ) (values : List 
   pub faultless : faults_of r d depth most_levels ≡ []
   pub read : unread_in_document r d depth most_levels ≡ []
   pub sound : AreSound (read_of as_it_stands (items_of report)) (conversions_view report.conversions) r
+  pub ordered : AllOrdered (conversions_view report.conversions).defaults
   pub verdicts : AreVerdicts (read_of as_it_stands (items_of report)) (conversions_view report.conversions) r (root_of report) values (map verdict_view report.verdicts.items)
 
 -- why there is no report of a document that was read: why it isn't converted, or the judge of texts failed at a value, which is told at the root
@@ -93,3 +99,19 @@ pub record CanJudge (r : Relations) (report : Report) : Type 0 where
   pub alike : (how : Deriving) → models_of how report ≡ read_of as_it_stands (items_of report)
   pub inside : (how : Deriving) → are_inside lexed how.variant_name how.field_name how.private how.derive (conversions_view report.conversions) (items_of report) ≡ true
   pub known : is_known (names_of (items_of report)) (root_of report) ≡ true
+
+-- a value is read and becomes itself
+abbrev pub IsSettledBy : (Value → Bool) → (Value → Value) → Value → Type 0
+IsSettledBy takes settles v = (takes v ≡ true) × (settles v ≡ v)
+
+-- what reading a value by the report's items gives: a typed value, or the place where it stops
+abbrev pub report_reading : Relations → Report → Deriving → Value → Read Typed
+report_reading texts r how v = reading (models_of how r) (conversions_view r.conversions) texts (root_of r) v
+
+-- However the items are read: what a value that is read becomes is read too, becomes itself, and is the typed value that the value is, where no two variants of an untagged
+-- enum may read one kind of value. The value's numbers are those that JSON values have, and its names rise at each level.
+abbrev pub SettlesOnce : Relations → Report → Type 0
+SettlesOnce r report =
+    (how : Deriving) → untagged_are_apart (models_of how report) ≡ true → (v : Value) → has_json_numbers v ≡ true → IsOrdered v → report_reads r report how v ≡ true
+    → IsSettledBy (report_reads r report how) (report_settles r report how) (report_settles r report how v)
+    × (report_reading r report how (report_settles r report how v) ≡ report_reading r report how v)

@@ -11,9 +11,10 @@ ghost use Rattle.schema_tree.specs.Fault.{fault_view};
 ghost use Rattle.schema_tree.specs.Numbers.{are_i64};
 ghost use Rattle.document_laws.specs.Laws.{WasRead};
 ghost use Rattle.reading_defs.specs.Laws.{defaults_are_sound};
+ghost use Rattle.writing_laws.specs.Tables.{AllOrdered};
 ghost use Rattle.derive_model.specs.Judging.{AreSound};
 ghost use Rattle.typify_run.specs.Verdicts.{AreVerdicts, IsUnjudged};
-ghost use Rattle.typify_run.specs.Examine.{as_it_stands, CanJudge, IsEmission, IsMadeOf, IsRefusal, IsUnreported, is_examined};
+ghost use Rattle.typify_run.specs.Examine.{as_it_stands, CanJudge, IsEmission, IsMadeOf, IsRefusal, IsUnreported, SettlesOnce, is_examined};
 ghost use Rattle.typify_run.specs.Headline.{IsReportOf, read_of};
 ghost use Rattle.typify_run.specs.Page.{ArePrintable};
 ghost use Rattle.typify_run.specs.PlainInputs.{IsPlainInput, IsRefusedPlainly};
@@ -25,6 +26,7 @@ use attr_parts::NoCase;
 use convert_document::converted;
 use derive_model::{Module, Verdict};
 use distinct_names::names_differ;
+use rising_names::names_of_each_rise;
 use schema_tree::{Conversions, Document, Fault, Setting, Texts, check_values};
 use serde_json::Value;
 use std::alloc::Global;
@@ -57,6 +59,13 @@ fn judged<T: Texts>(
     }
 }
 
+// The names in stated defaults rise at each level, as those in any value that the program holds.
+fn see_names(conversions: &Conversions)
+    ensures { AllOrdered (conversions_view conversions.now).defaults }
+{
+    names_of_each_rise(&conversions.defaults);
+}
+
 // The report on a document that was read.
 fn report_of<T: Texts>(
     alloc: Global,
@@ -81,6 +90,7 @@ fn report_of<T: Texts>(
         values,
         texts,
     )?;
+    see_names(&emitted.table);
     Ok(Report {
         items: emitted.items,
         conversions: emitted.table,
@@ -104,6 +114,7 @@ pub fn examine<T: Texts>(
     ensures emission { IfOk result (λ r. IsEmission Setting.Strict (T.relations texts.old) depth (value_of (view document.now)) r) }
     ensures printable { IfOk result (λ r. ArePrintable (map verdict_view r.verdicts.items)) }
     ensures judges { IfOk result (λ r. CanJudge (T.relations texts.old) r) }
+    ensures once { IfOk result (λ r. SettlesOnce (T.relations texts.old) r) }
     ensures examined { OnOk result (is_examined Setting.Strict (T.relations texts.old) depth (value_of (view document.now)) (map view values.now) ≡ true) }
     ensures accepted { OnOk result (IsAccepted (value_of (view document.now))) }
     ensures refused { IfErr result (λ f. IsRefusal Setting.Strict (T.relations texts.old) depth (T.faults texts.old) (T.faults texts.new) (value_of (view document.now)) (map view values.now) (fault_view f)) }
@@ -136,6 +147,7 @@ pub fn examine_with<T: Texts>(
     ensures emission { IfOk result (λ r. IsEmission setting (T.relations texts.old) depth (value_of (view document.now)) r) }
     ensures printable { IfOk result (λ r. ArePrintable (map verdict_view r.verdicts.items)) }
     ensures judges { IfOk result (λ r. CanJudge (T.relations texts.old) r) }
+    ensures once { IfOk result (λ r. SettlesOnce (T.relations texts.old) r) }
     ensures examined { OnOk result (is_examined setting (T.relations texts.old) depth (value_of (view document.now)) (map view values.now) ≡ true) }
     ensures accepted { OnOk result (IsAccepted (value_of (view document.now))) }
     ensures refused { IfErr result (λ f. IsRefusal setting (T.relations texts.old) depth (T.faults texts.old) (T.faults texts.new) (value_of (view document.now)) (map view values.now) (fault_view f)) }

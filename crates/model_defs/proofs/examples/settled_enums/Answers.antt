@@ -12,5 +12,6 @@ returns c = record {
   untagged_first = refl;
   untagged_second = refl;
   untagged_unit = refl;
+  untagged_of_itself = refl;
   the_tag_stays = refl;
 }

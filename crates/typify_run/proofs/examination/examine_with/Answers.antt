@@ -4,7 +4,7 @@ use Rattle.json_value.specs.View.{value_of}
 use Rattle.schema_tree.specs.Document.{view as document_seen}
 use Rattle.schema_tree.proofs.Settings.{read_strictly}
 use Rattle.document_laws.specs.Laws.{WasRead}
-use Rattle.typify_run.proofs.Reported.{reported, all_printable, can_judge}
+use Rattle.typify_run.proofs.Reported.{reported, all_printable, can_judge, settles_once}
 use Rattle.schema_tree.specs.Fault.{fault_view}
 use Rattle.typify_run.specs.Examine.{IsRefusal}
 use Rattle.typify_run.specs.PlainInputs.{IsRefusedPlainly}
@@ -48,6 +48,13 @@ returns-clause-judges g c =
     let d = document_seen c.in_ok-read.read in
     let was_read : WasRead d = record { setting = c.args.setting; value = value_of (view c.args.document.now); read = c.in_ok-read.ensures.document; differ = c.names_differ.ensures } in
     can_judge r d c.args.depth (map view c.args.values.now) c.in_ok-report.report was_read c.in_ok-report.ensures.report
+
+pub returns-clause-once : goal.returns-clause-once
+returns-clause-once g c =
+    let r = g.T.Texts.relations c.args.texts.now in
+    let d = document_seen c.in_ok-read.read in
+    let was_read : WasRead d = record { setting = c.args.setting; value = value_of (view c.args.document.now); read = c.in_ok-read.ensures.document; differ = c.names_differ.ensures } in
+    settles_once r d c.args.depth (map view c.args.values.now) c.in_ok-report.report was_read c.in_ok-report.ensures.report
 
 pub returns-clause-examined : goal.returns-clause-examined
 returns-clause-examined g c =

@@ -46,6 +46,7 @@ returns-clause-report g c =
       read = is.read;
       sound = subst (λ (is : List DeriveInput). AreSound (read_of as_it_stands (map item_view is)) cs r) c.deref.ensures.value
           (subst (λ (k : Relations). AreSound (read_of as_it_stands (map item_view c.deref.result.now)) cs k) is.keeps c.in_ok-verdicts.ensures.sound);
+      ordered = c.see_names.ensures;
       verdicts = subst (λ (is : List DeriveInput). AreVerdicts (read_of as_it_stands (map item_view is)) cs r t values verdicts) c.deref.ensures.value told;
     }
 
