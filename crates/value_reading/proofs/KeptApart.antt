@@ -1,73 +1,46 @@
 -- Items kept apart, one after the other.
-use Rattle.std.proofs.Common.{◌≡◌, ℕ, ◌+◌, ◌<◌, ◌≤◌, List, [], ◌∷◌, ◌++◌, map, drop, length, get_or, refl, sym, ap, ◌∙◌, Bool, true, false, cond, ◌||◌}
+use Rattle.std.proofs.Common.{◌≡◌, List, [], ◌∷◌, ◌++◌, refl, sym, ap, ◌∙◌, Bool, true, false, cond, ◌||◌}
 use Rattle.std.specs.List.{list_any}
-use Rattle.std.proofs.lemmas.List.{map-append, append-nil}
 use Rattle.json_value.specs.Value.{Value, same}
+use Rattle.json_value.specs.View.{kept_view}
+use Rattle.serde_json.specs.declared.value.Value as json
 use Rattle.typed_defs.specs.Typed.{Typed}
 use Rattle.reading_defs.specs.Reading.{keep_apart}
-use Rattle.serde_json.specs.declared.value.Value as json
-use Rattle.json_value.specs.View.{kept_view}
 use Rattle.value_models.specs.declared.typed.Typed.{Typed as Typed'}
 use Rattle.value_models.specs.TypedView.{typed_view, typeds_view}
-use Rattle.value_parts.proofs.Turns.{mapped_get, mapped_past, one_more, all_done}
+use Rattle.value_parts.proofs.Turns.{one_more}
 
--- what was seen last stands last
-abbrev pub kept_later : (Typed → Value) → List Value → List Typed → List Typed
-kept_later w seen [] = []
-kept_later w seen (x ∷ xs) = cond (list_any (same (w x)) seen) (kept_later w seen xs) (x ∷ kept_later w (seen ++ w x ∷ []) xs)
+-- a test in place of the list of what was seen
+abbrev pub kept_by : (Typed → Value) → (Value → Bool) → List Typed → List Typed
+kept_by w held [] = []
+kept_by w held (x ∷ xs) = cond (held (w x)) (kept_by w held xs) (x ∷ kept_by w (λ v. same v (w x) || held v) xs)
 
-abbrev AsSeen : List Value → List Value → Type 0
-AsSeen a b = (v : Value) → list_any (same v) a ≡ list_any (same v) b
+alike : (w : Typed → Value) (held : Value → Bool) (seen : List Value) (xs : List Typed) → ((v : Value) → held v ≡ list_any (same v) seen) → kept_by w held xs ≡ keep_apart w seen xs
+alike w held seen [] h = refl
+alike w held seen (x ∷ xs) h =
+    λ i. cond (h (w x) i) (alike w held seen xs h i) (x ∷ alike w (λ v. same v (w x) || held v) (w x ∷ seen) xs (λ v. ap (λ b. same v (w x) || b) (h v)) i)
 
-or_turned : (a b : Bool) → a || b ≡ b || a
-or_turned true true = refl
-or_turned true false = refl
-or_turned false true = refl
-or_turned false false = refl
+pub begun : (w : Typed → Value) (held : Value → Bool) (xs : List Typed) → ((v : Value) → held v ≡ false) → kept_by w held xs ≡ keep_apart w [] xs
+begun w held xs h = alike w held [] xs h
 
-or_last : (a b c : Bool) → a || (b || c) ≡ b || (a || c)
-or_last true true c = refl
-or_last true false c = refl
-or_last false true c = refl
-or_last false false c = refl
-
-last_first : (v w : Value) (seen : List Value) → list_any (same v) (w ∷ seen) ≡ list_any (same v) (seen ++ w ∷ [])
-last_first v w [] = refl
-last_first v w (x ∷ seen) = or_last (same v w) (same v x) (list_any (same v) seen) ∙ ap (λ b. same v x || b) (last_first v w seen)
-
-alike : (w : Typed → Value) (a b : List Value) (xs : List Typed) → AsSeen a b → keep_apart w a xs ≡ kept_later w b xs
-alike w a b [] h = refl
-alike w a b (x ∷ xs) h =
-    (λ i. cond (h (w x) i) (alike w a b xs h i) (x ∷ alike w (w x ∷ a) (b ++ w x ∷ []) xs (λ v. ap (λ c. same v (w x) || c) (h v) ∙ last_first v (w x) b) i))
-
-pub begun : (w : Typed → Value) (xs : List Typed) → kept_later w [] xs ≡ keep_apart w [] xs
-begun w xs = sym (alike w [] [] xs (λ v. refl))
-
-module _ (w : Typed → Value) where
-  step : (seen : List Value) (x : Typed) (xs : List Typed) (v : Value) (b : Bool) → v ≡ w x → b ≡ list_any (same v) seen
-      → kept_later w seen (x ∷ xs) ≡ cond b (kept_later w seen xs) (x ∷ kept_later w (seen ++ v ∷ []) xs)
-  step seen x xs v b e t =
-      ap (λ c. cond c (kept_later w seen xs) (x ∷ kept_later w (seen ++ w x ∷ []) xs)) (sym (t ∙ ap (λ u. list_any (same u) seen) e))
-      ∙ ap (λ u. cond b (kept_later w seen xs) (x ∷ kept_later w (seen ++ u ∷ []) xs)) (sym e)
-
+module _ (w : Typed → Value) (held : Value → Bool) where
   -- one that was not seen before
-  pub kept_turn : (old new : List Typed') (x : Typed') (seen after : List json.Value) (v : json.Value) (xs : List Typed') (b : Bool) (whole : List Typed)
-      → kept_view v ≡ w (typed_view x) → b ≡ list_any (same (kept_view v)) (map kept_view seen) → b ≡ false → new ≡ old ++ x ∷ [] → after ≡ seen ++ v ∷ []
-      → typeds_view old ++ kept_later w (map kept_view seen) (typeds_view (x ∷ xs)) ≡ whole
-      → typeds_view new ++ kept_later w (map kept_view after) (typeds_view xs) ≡ whole
-  kept_turn old new x seen after v xs b whole e t f n a was =
-      ap (λ ss. typeds_view new ++ kept_later w ss (typeds_view xs)) (ap (map kept_view) a ∙ map-append kept_view seen (v ∷ []))
-      ∙ one_more typed_view old new x (kept_later w (map kept_view seen ++ kept_view v ∷ []) (typeds_view xs)) whole n
-      (ap (λ ys. typeds_view old ++ ys)
-      (sym (step (map kept_view seen) (typed_view x) (typeds_view xs) (kept_view v) b e t
-      ∙ ap (λ c. cond c (kept_later w (map kept_view seen) (typeds_view xs)) (typed_view x ∷ kept_later w (map kept_view seen ++ kept_view v ∷ []) (typeds_view xs))) f)) ∙ was)
+  pub kept_turn : (after : Value → Bool) (old new : List Typed') (x : Typed') (v : json.Value) (xs : List Typed') (b : Bool) (whole : List Typed)
+      → kept_view v ≡ w (typed_view x) → b ≡ held (kept_view v) → b ≡ false → new ≡ old ++ x ∷ [] → ((u : Value) → after u ≡ (same u (kept_view v) || held u))
+      → typeds_view old ++ kept_by w held (typeds_view (x ∷ xs)) ≡ whole
+      → typeds_view new ++ kept_by w after (typeds_view xs) ≡ whole
+  kept_turn after old new x v xs b whole e t f n a was =
+      let same_test : after ≡ (λ u. same u (w (typed_view x)) || held u) = λ i u. (a u ∙ ap (λ y. same u y || held u) e) i in
+      let unseen : held (w (typed_view x)) ≡ false = ap held (sym e) ∙ sym t ∙ f in
+      ap (λ h. typeds_view new ++ kept_by w h (typeds_view xs)) same_test
+      ∙ one_more typed_view old new x (kept_by w (λ u. same u (w (typed_view x)) || held u) (typeds_view xs)) whole n
+      (ap (λ c. typeds_view old ++ cond c (kept_by w held (typeds_view xs)) (typed_view x ∷ kept_by w (λ u. same u (w (typed_view x)) || held u) (typeds_view xs))) (sym unseen) ∙ was)
 
   -- one that was
-  pub dropped_turn : (old : List Typed') (x : Typed') (seen : List json.Value) (v : json.Value) (xs : List Typed') (b : Bool) (whole : List Typed)
-      → kept_view v ≡ w (typed_view x) → b ≡ list_any (same (kept_view v)) (map kept_view seen) → b ≡ true
-      → typeds_view old ++ kept_later w (map kept_view seen) (typeds_view (x ∷ xs)) ≡ whole
-      → typeds_view old ++ kept_later w (map kept_view seen) (typeds_view xs) ≡ whole
-  dropped_turn old x seen v xs b whole e t f was =
-      ap (λ ys. typeds_view old ++ ys)
-      (sym (step (map kept_view seen) (typed_view x) (typeds_view xs) (kept_view v) b e t
-      ∙ ap (λ c. cond c (kept_later w (map kept_view seen) (typeds_view xs)) (typed_view x ∷ kept_later w (map kept_view seen ++ kept_view v ∷ []) (typeds_view xs))) f)) ∙ was
+  pub dropped_turn : (old : List Typed') (x : Typed') (v : json.Value) (xs : List Typed') (b : Bool) (whole : List Typed)
+      → kept_view v ≡ w (typed_view x) → b ≡ held (kept_view v) → b ≡ true
+      → typeds_view old ++ kept_by w held (typeds_view (x ∷ xs)) ≡ whole
+      → typeds_view old ++ kept_by w held (typeds_view xs) ≡ whole
+  dropped_turn old x v xs b whole e t f was =
+      let seen : held (w (typed_view x)) ≡ true = ap held (sym e) ∙ sym t ∙ f in
+      ap (λ c. typeds_view old ++ cond c (kept_by w held (typeds_view xs)) (typed_view x ∷ kept_by w (λ u. same u (w (typed_view x)) || held u) (typeds_view xs))) (sym seen) ∙ was

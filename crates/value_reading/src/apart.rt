@@ -1,7 +1,6 @@
 //! The items of a set.
-ghost use Rattle.std.specs.Prelude.{◌≡◌, ◌++◌, ◌∷◌, [], IfErr, IfOk, map};
-ghost use Rattle.std.specs.List.{list_any};
-ghost use Rattle.json_value.specs.Value.{same as same_in};
+ghost use Rattle.std.specs.Prelude.{◌≡◌, ◌||◌, [], IfErr, IfOk};
+ghost use Rattle.json_value.specs.Value.{Value as JsonValue, same as same_in};
 ghost use Rattle.typed_defs.specs.Typed.{list as list_typed, typeds};
 ghost use Rattle.typed_defs.specs.Written.{written};
 ghost use Rattle.reading_defs.specs.Reading.{keep_apart as keep_apart_in, read_map};
@@ -10,13 +9,14 @@ ghost use Rattle.value_models.specs.ContainersView.{containers_in};
 ghost use Rattle.value_models.specs.TypeView.{type_view};
 ghost use Rattle.value_models.specs.TypedView.{typed_view, typeds_view};
 ghost use Rattle.value_parts.specs.Seen.{one_view, several_view};
+ghost use Rattle.value_sets.specs.Held.{holds};
 
-use json_value::same;
 use schema_texts::TextFault;
 use serde_json::Value;
 use std::alloc::Global;
 use value_models::{Containers, Typed, ValueType};
 use value_parts::{Outcome, list_of, push_typed};
+use value_sets::ValueSet;
 use value_writing::write;
 
 fn written_as(
@@ -34,22 +34,11 @@ fn written_as(
     }
 }
 
-fn is_seen(seen: &[Value], value: &Value) -> bool
-    ensures { result ≡ list_any (same_in (kept_view value.now)) (map kept_view seen.now) }
-{
-    for other in seen {
-        if same(value, other) {
-            return true;
-        }
-    }
-    false
-}
-
-fn push_value(values: &mut Vec<Value>, value: Value) -> Result<(), TextFault>
-    ensures answer { IfOk result (λ _. values.new.items ≡ values.old.items ++ value ∷ []) }
+fn put(seen: &mut ValueSet, value: Value) -> Result<(), TextFault>
+    ensures answer { IfOk result (λ _. (v : JsonValue) → holds seen.new v ≡ (same_in v (kept_view value) || holds seen.old v)) }
     ensures memory { IfErr result (λ e. e ≡ TextFault.Memory) }
 {
-    match values.push(value) {
+    match seen.insert(value) {
         Ok(()) => Ok(()),
         Err(_) => Err(TextFault::Memory),
     }
@@ -67,12 +56,12 @@ fn keep_apart(
     ensures memory { IfErr result (λ e. e ≡ TextFault.Memory) }
 {
     let mut kept = Vec::new(alloc);
-    let mut seen = Vec::new(alloc);
+    let mut seen = ValueSet::new(alloc);
     for typed in values {
         let value = written_as(alloc, containers, ty, &typed)?;
-        if !is_seen(&seen, &value) {
+        if !seen.has(&value) {
             push_typed(&mut kept, typed)?;
-            push_value(&mut seen, value)?;
+            put(&mut seen, value)?;
         }
     }
     Ok(kept)
