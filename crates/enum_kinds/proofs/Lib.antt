@@ -1,4 +1,5 @@
 pub mod Seen
 pub mod Sets
+pub mod Kept
 pub mod Parts
 pub mod Views

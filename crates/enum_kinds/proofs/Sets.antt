@@ -74,6 +74,20 @@ module _ (d : Document) (g : IsGuarded d) where
   a-target open' so_far here s t q h e r f =
       ap (λ x. meet x (kinds d t)) (e ∙ ap (meet open') h) ∙ meet-assoc open' (kinds_here (kinds_beyond d) s) (kinds d t) ∙ sym (ap (meet open') (to-target open' s q (Some t) r f))
 
+  -- of a schema alone
+  pub without_reference : (here : KindSet) (s : Schema) → here ≡ kinds_here (kinds_beyond d) s → reference_of s ≡ None → here ≡ kinds d s
+  without_reference here s h n =
+      h ∙ sym (meet-every (kinds_here (kinds_beyond d) s)) ∙ ap (λ o. meet (kinds_here (kinds_beyond d) s) (or_every (kinds_beyond d) o)) (sym n) ∙ sym (here-and-beyond s)
+
+  pub with_reference : (here behind whole : KindSet) (s : Schema) (q : List ℕ) → here ≡ kinds_here (kinds_beyond d) s → behind ≡ kinds_beyond d q → reference_of s ≡ Some q → whole ≡ meet here behind → whole ≡ kinds d s
+  with_reference here behind whole s q h b r w =
+      w ∙ (λ i. meet (h i) (b i)) ∙ ap (λ o. meet (kinds_here (kinds_beyond d) s) (or_every (kinds_beyond d) o)) (sym r) ∙ sym (here-and-beyond s)
+
+  -- where what the reference leaves open was kept
+  pub with_rest : (open' so_far here rest whole : KindSet) (s : Schema) (q : List ℕ) → here ≡ kinds_here (kinds_beyond d) s → so_far ≡ meet open' here → reference_of s ≡ Some q → kinds_beyond d q ≡ rest → whole ≡ meet so_far rest → whole ≡ meet open' (kinds d s)
+  with_rest open' so_far here rest whole s q h e r b w =
+      w ∙ ap (λ x. meet x rest) e ∙ meet-assoc open' here rest ∙ ap (meet open') (with_reference here rest (meet here rest) s q h (sym b) r refl)
+
 -- ---- one more of a list
 
 pub one_more : {A : Type 0} (f : A → KindSet) (so_far next one : KindSet) (x : A) (rest left : List A) (whole : KindSet) → next ≡ join so_far one → one ≡ f x → left ≡ x ∷ rest → whole ≡ join so_far (union f left) → whole ≡ join next (union f rest)

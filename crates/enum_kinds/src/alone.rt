@@ -1,5 +1,5 @@
 //! Where references alone lead.
-ghost use Rattle.std.specs.Prelude.{◌≡◌, option_map, option_and_then};
+ghost use Rattle.std.specs.Prelude.{◌≡◌, option_map, option_and_then, string_bytes};
 ghost use Rattle.schema_defs.specs.Admits.{target as target_of};
 ghost use Rattle.schema_defs.specs.Children.{reference_of as reference_in};
 ghost use Rattle.schema_defs.specs.Walks.{IsGuarded};
@@ -12,15 +12,12 @@ use enum_shapes::is_unruled;
 use schema_types::{Document, Schema};
 
 // The reference of a schema.
-pub(crate) fn reference_of(schema: &Schema) -> Option<&str>
-    ensures { option_map (λ q. q.now) result ≡ reference_in (schema_view schema.now) }
+pub(crate) fn reference_of(schema: &Schema) -> Option<&String>
+    ensures { option_map (λ q. string_bytes q.now) result ≡ reference_in (schema_view schema.now) }
 {
     match schema {
         Schema::Bool(_) => None,
-        Schema::Object(object) => match &object.reference {
-            Some(reference) => Some(reference.as_str()),
-            None => None,
-        },
+        Schema::Object(object) => object.reference.as_ref(),
     }
 }
 
@@ -53,8 +50,8 @@ fn refers_at_most(schema: &Schema) -> bool
     lists_nothing(schema) && is_unruled(schema) && has_no_part(schema)
 }
 
-fn reference_alone(schema: &Schema) -> Option<&str>
-    ensures { option_map (λ q. q.now) result ≡ reference_alone_of (schema_view schema.now) }
+fn reference_alone(schema: &Schema) -> Option<&String>
+    ensures { option_map (λ q. string_bytes q.now) result ≡ reference_alone_of (schema_view schema.now) }
 {
     if refers_at_most(schema) {
         reference_of(schema)
@@ -67,7 +64,7 @@ fn target_alone<'s>(document: &'s Document, schema: &'s Schema) -> Option<&'s Sc
     ensures { option_map (λ s. schema_view s.now) result ≡ option_and_then (target_of (document_view document.now)) (reference_alone_of (schema_view schema.now)) }
 {
     match reference_alone(schema) {
-        Some(reference) => document.target(reference),
+        Some(reference) => document.target(reference.as_str()),
         None => None,
     }
 }

@@ -11,6 +11,7 @@ ghost use Rattle.enum_defs.specs.Exclusive.{exclusive as exclusive_in, are_apart
 ghost use Rattle.enum_shapes.specs.View.{shape_view};
 
 use crate::alone::led;
+use crate::asked::Asked;
 use crate::kind::kinds_of;
 use crate::set::is_disjoint;
 use enum_defs::KindSet;
@@ -19,14 +20,16 @@ use schema_types::{Document, Schema};
 
 /// Whether each two of the schemas have no kind in common; or both lead by references alone to object shapes of which
 /// both require a property with different constant texts, or one requires a property that the other, closed, doesn't
-/// name. It looks at each two of them once, and takes no memory.
+/// name. It looks at each two of them once, and asks a definition once as long as there is memory to keep what it leaves
+/// open.
 pub fn exclusive(document: &Document, schemas: &[Schema]) -> bool
     requires { IsGuarded (document_view document.now) }
     ensures { result ≡ exclusive_in (document_view document.now) (schemas_view schemas.now) }
 {
+    let mut asked = Asked::new(document);
     let mut left = schemas;
     while let Some((schema, rest)) = left.split_first() {
-        if !is_apart_from_all(document, schema, rest) {
+        if !is_apart_from_all(document, &mut asked, schema, rest) {
             return false;
         }
         left = rest;
@@ -34,15 +37,22 @@ pub fn exclusive(document: &Document, schemas: &[Schema]) -> bool
     true
 }
 
-fn is_apart_from_all(document: &Document, schema: &Schema, others: &[Schema]) -> bool
-    requires { IsGuarded (document_view document.now) }
-    ensures { result ≡ list_all (are_apart_in (document_view document.now) (schema_view schema.now)) (schemas_view others.now) }
+fn is_apart_from_all(
+    document: &Document,
+    asked: &mut Asked<'_>,
+    schema: &Schema,
+    others: &[Schema],
+) -> bool
+    requires guarded { IsGuarded (document_view document.now) }
+    requires asked { asked.now.document.now ≡ document.now }
+    ensures answer { result ≡ list_all (are_apart_in (document_view document.now) (schema_view schema.now)) (schemas_view others.now) }
+    ensures asked { asked.new.document.now ≡ document.now }
 {
-    let kinds = kinds_of(document, schema);
+    let kinds = kinds_of(document, asked, schema);
     let shape = object_shape(led(document, schema));
     let mut left = others;
     while let Some((other, rest)) = left.split_first() {
-        if !are_apart(document, kinds, &shape, other) {
+        if !are_apart(document, asked, kinds, &shape, other) {
             return false;
         }
         left = rest;
@@ -52,14 +62,17 @@ fn is_apart_from_all(document: &Document, schema: &Schema, others: &[Schema]) ->
 
 fn are_apart(
     document: &Document,
+    asked: &mut Asked<'_>,
     kinds: KindSet,
     shape: &Option<ObjectShape<'_>>,
     other: &Schema,
 ) -> bool
-    requires { IsGuarded (document_view document.now) }
-    ensures { result ≡ (is_disjoint_in kinds (kinds_in (document_view document.now) (schema_view other.now)) || shapes_differ_in (option_map shape_view shape.now) (object_shape_of (led_in (document_view document.now) (schema_view other.now)))) }
+    requires guarded { IsGuarded (document_view document.now) }
+    requires asked { asked.now.document.now ≡ document.now }
+    ensures answer { result ≡ (is_disjoint_in kinds (kinds_in (document_view document.now) (schema_view other.now)) || shapes_differ_in (option_map shape_view shape.now) (object_shape_of (led_in (document_view document.now) (schema_view other.now)))) }
+    ensures asked { asked.new.document.now ≡ document.now }
 {
-    if is_disjoint(kinds, kinds_of(document, other)) {
+    if is_disjoint(kinds, kinds_of(document, asked, other)) {
         return true;
     }
     match shape {

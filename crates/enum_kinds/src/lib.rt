@@ -3,6 +3,7 @@
 
 mod alone;
 mod apart;
+mod asked;
 mod kind;
 mod set;
 

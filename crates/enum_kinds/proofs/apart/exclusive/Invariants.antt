@@ -5,7 +5,10 @@ use Rattle.enum_defs.specs.Exclusive.{exclusive}
 use Rattle.enum_kinds.proofs.apart.exclusive.Given as goal
 
 abbrev pub invariant-loop-schema : goal.invariant-loop-schema
-invariant-loop-schema l = exclusive (document_view l.document) (schemas_view l.schemas) ≡ exclusive (document_view l.document) (schemas_view l.left)
+invariant-loop-schema l = record {
+  same : exclusive (document_view l.document) (schemas_view l.schemas) ≡ exclusive (document_view l.document) (schemas_view l.left);
+  asked : l.asked.document.now ≡ l.document;
+}
 
 abbrev pub decreases-loop-schema : goal.decreases-loop-schema
 decreases-loop-schema l = length l.left

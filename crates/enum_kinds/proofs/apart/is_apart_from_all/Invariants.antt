@@ -6,9 +6,12 @@ use Rattle.enum_defs.specs.Exclusive.{are_apart}
 use Rattle.enum_kinds.proofs.apart.is_apart_from_all.Given as goal
 
 abbrev pub invariant-loop-other : goal.invariant-loop-other
-invariant-loop-other l =
-    list_all (are_apart (document_view l.document) (schema_view l.schema)) (schemas_view l.others)
-    ≡ list_all (are_apart (document_view l.document) (schema_view l.schema)) (schemas_view l.left)
+invariant-loop-other l = record {
+  same :
+      list_all (are_apart (document_view l.document) (schema_view l.schema)) (schemas_view l.others)
+      ≡ list_all (are_apart (document_view l.document) (schema_view l.schema)) (schemas_view l.left);
+  asked : l.asked.document.now ≡ l.document;
+}
 
 abbrev pub decreases-loop-other : goal.decreases-loop-other
 decreases-loop-other l = length l.left
