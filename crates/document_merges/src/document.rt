@@ -17,7 +17,7 @@ use crate::gather::gather;
 use crate::merge::Merge;
 use crate::scope::Scope;
 use merge_parts::MergeFault;
-use merged_rows::Start;
+use merged_rows::{Budget, Start, size_of};
 use row_findings::Source;
 use schema_tree::{Document, Schema};
 use schema_types::{Location, Walk};
@@ -80,6 +80,49 @@ pub fn definition_start(alloc: Global, document: &Document, name: &str) -> Resul
 
 // ---- what merges
 
+fn size_of_definition(document: &Document, name: &str) -> u64 {
+    match document.definition(name) {
+        Some(schema) => size_of(schema),
+        None => 0,
+    }
+}
+
+fn size_of_document(document: &Document) -> u64 {
+    let mut size = size_of(document.root());
+    let mut names = document.names();
+    while let Some(name) = names.next() {
+        size = size.saturating_add(size_of_definition(document, name));
+    }
+    size
+}
+
+// Adds what the rows of the conversion tree merge that begins at this start with this schema, where so much may still
+// be merged.
+fn merges_within(
+    alloc: Global,
+    document: &Document,
+    depth: u32,
+    levels: u32,
+    budget: &Budget,
+    merges: &mut Vec<Merge>,
+    start: &Start,
+    schema: &Schema,
+) -> Result<(), MergeFault>
+    ensures found { OnOk result ((r : Relations) (h : Handed) → merges_view merges.new.items ≡ merges_view merges.old.items ++ merges_in (tree_at r (document_seen document.now) depth levels (spot_of start.now [] h) (schema_view schema.now))) }
+    ensures memory { IfErr result (λ e. e ≡ Memory) }
+{
+    let scope = Scope {
+        alloc,
+        document,
+        depth,
+        start,
+        budget,
+    };
+    let trail = Vec::new(alloc);
+    let source = Source::Written(schema);
+    gather(&scope, merges, &trail, levels, &source)
+}
+
 /// Adds what the rows of the conversion tree merge that begins at this start with this schema.
 pub fn merges_at(
     alloc: Global,
@@ -93,15 +136,10 @@ pub fn merges_at(
     ensures found { OnOk result ((r : Relations) (h : Handed) → merges_view merges.new.items ≡ merges_view merges.old.items ++ merges_in (tree_at r (document_seen document.now) depth levels (spot_of start.now [] h) (schema_view schema.now))) }
     ensures memory { IfErr result (λ e. e ≡ Memory) }
 {
-    let scope = Scope {
-        alloc,
-        document,
-        depth,
-        start,
-    };
-    let trail = Vec::new(alloc);
-    let source = Source::Written(schema);
-    gather(&scope, merges, &trail, levels, &source)
+    let budget = Budget::new(size_of(schema));
+    merges_within(
+        alloc, document, depth, levels, &budget, merges, start, schema,
+    )
 }
 
 /// What the rows of the document merge: of its definitions in the order of their names, then of its root.
@@ -114,14 +152,16 @@ pub fn merges_of(
     ensures found { IfOk result (λ ms. (r : Relations) → merges_view ms.items ≡ merges_in (document_tree r (document_seen document.now) depth levels)) }
     ensures memory { IfErr result (λ e. e ≡ Memory) }
 {
+    let budget = Budget::new(size_of_document(document));
     let mut merges = Vec::new(alloc);
-    of_definitions(alloc, document, depth, levels, &mut merges)?;
+    of_definitions(alloc, document, depth, levels, &budget, &mut merges)?;
     let start = root_start(alloc)?;
-    merges_at(
+    merges_within(
         alloc,
         document,
         depth,
         levels,
+        &budget,
         &mut merges,
         &start,
         document.root(),
@@ -134,6 +174,7 @@ fn of_definitions(
     document: &Document,
     depth: u32,
     levels: u32,
+    budget: &Budget,
     merges: &mut Vec<Merge>,
 ) -> Result<(), MergeFault>
     ensures found { OnOk result ((r : Relations) → merges_view merges.new.items ≡ merges_view merges.old.items ++ merges_in (definition_trees r (document_seen document.now) depth levels (document_seen document.now).definitions)) }
@@ -141,7 +182,7 @@ fn of_definitions(
 {
     let mut names = document.names();
     while let Some(name) = names.next() {
-        of_definition(alloc, document, depth, levels, merges, name)?;
+        of_definition(alloc, document, depth, levels, budget, merges, name)?;
     }
     Ok(())
 }
@@ -151,6 +192,7 @@ fn of_definition(
     document: &Document,
     depth: u32,
     levels: u32,
+    budget: &Budget,
     merges: &mut Vec<Merge>,
     name: &str,
 ) -> Result<(), MergeFault>
@@ -160,7 +202,9 @@ fn of_definition(
     match document.definition(name) {
         Some(schema) => {
             let start = definition_start(alloc, document, name)?;
-            merges_at(alloc, document, depth, levels, merges, &start, schema)
+            merges_within(
+                alloc, document, depth, levels, budget, merges, &start, schema,
+            )
         }
         None => Err(MergeFault::Memory),
     }

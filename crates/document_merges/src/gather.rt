@@ -128,6 +128,7 @@ fn gather_part<'d>(
         document: scope.document,
         depth: scope.depth,
         start: start_at(scope.start, &place),
+        budget: scope.budget,
     };
     gather(&inside, merges, &place.trail, levels, &part.source)?;
     Ok(())
@@ -164,6 +165,7 @@ fn gather_merged<'d>(
         document: scope.document,
         most: scope.depth,
         levels,
+        budget: scope.budget,
     };
     let mut notes = Vec::new(scope.alloc);
     match merge_row(&merging, &mut notes, scope.start, trail, source, parts) {
@@ -226,6 +228,7 @@ fn gather_inside(
         document: &*scope.document,
         depth: scope.depth,
         start: &standing.start,
+        budget: scope.budget,
     };
     let trail = Vec::new(scope.alloc);
     let source = Source::Written(&standing.schema);

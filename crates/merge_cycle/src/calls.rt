@@ -15,18 +15,19 @@ use crate::how::{How, Scope};
 use merge_less::{Listed, divided};
 use merge_parts::{MergeFault, MergeNote};
 use merge_sides::{finished, refuse_subschemas};
-use merge_steps::{Stop, found};
+use merge_steps::{Budget, Stop, found};
 use merge_walked::{Side, copy_maybe_subschemas, opened};
 use schema_types::{Document, Schema, Subschemas};
 use std::alloc::Global;
 
-/// The merge of two schemas, where walks have at most so many steps: a schema, or nothing for never. The notes are written behind those
+/// The merge of two schemas, where walks have at most so many steps, and so much may still be merged: a schema, or nothing for never. The notes are written behind those
 /// before them.
 pub fn join_schemas(
     alloc: Global,
     document: &Document,
     most: usize,
     levels: u32,
+    budget: &Budget,
     notes: &mut Vec<MergeNote>,
     first: Schema,
     second: Schema,
@@ -39,6 +40,7 @@ pub fn join_schemas(
         alloc,
         document,
         most,
+        budget,
     };
     let left = levels as usize + 1;
     found(join(&scope, notes, left, first, second))
@@ -50,6 +52,7 @@ pub fn less_schemas(
     document: &Document,
     most: usize,
     levels: u32,
+    budget: &Budget,
     notes: &mut Vec<MergeNote>,
     first: Schema,
     second: Schema,
@@ -62,6 +65,7 @@ pub fn less_schemas(
         alloc,
         document,
         most,
+        budget,
     };
     let left = levels as usize + 1;
     found(less(&scope, notes, left, first, second))
@@ -73,6 +77,7 @@ pub fn merge_schemas(
     document: &Document,
     most: usize,
     levels: u32,
+    budget: &Budget,
     notes: &mut Vec<MergeNote>,
     list: Vec<Schema>,
 ) -> Result<Option<Schema>, MergeFault>
@@ -84,6 +89,7 @@ pub fn merge_schemas(
         alloc,
         document,
         most,
+        budget,
     };
     let left = levels as usize + 1;
     let Listed { first, rest } = divided(list);
@@ -119,6 +125,7 @@ pub fn with_subschemas(
     document: &Document,
     most: usize,
     levels: u32,
+    budget: &Budget,
     notes: &mut Vec<MergeNote>,
     body: &Schema,
     subschemas: &Option<Subschemas>,
@@ -131,6 +138,7 @@ pub fn with_subschemas(
         alloc,
         document,
         most,
+        budget,
     };
     let left = levels as usize;
     found(with_members(&scope, notes, left, body, subschemas))

@@ -25,7 +25,7 @@ use crate::apart::{
     made_members, meet, meet_less, parts_of, set_apart, stand_for, two_lists, two_members,
 };
 use crate::how::{How, Scope};
-use crate::outside::{boxed, merges_beside, too_few};
+use crate::outside::{boxed, merges_beside, too_few, used_up};
 use merge_apart::{Parted, unparted, whole};
 use merge_branches::{Branch, Kept, SameParts, none_kept};
 use merge_less::{Listed, Taken, Taking};
@@ -54,6 +54,9 @@ pub(crate) fn join(
 {
     if left == 0 {
         return too_few(scope.alloc);
+    }
+    if !scope.budget.spend(&first, &second) {
+        return used_up();
     }
     let met = meet(
         scope.alloc,
@@ -599,6 +602,9 @@ pub(crate) fn less(
 {
     if left == 0 {
         return too_few(scope.alloc);
+    }
+    if !scope.budget.spend(&first, &second) {
+        return used_up();
     }
     let taking = meet_less(
         scope.alloc,

@@ -1,4 +1,5 @@
 //! What every call of a merge reads.
+use merge_steps::Budget;
 use schema_types::Document;
 use std::alloc::Global;
 
@@ -9,10 +10,11 @@ pub(crate) enum How {
     Less,
 }
 
-/// The document whose references lead to schemas, and how many steps a walk may have.
+/// The document whose references lead to schemas, how many steps a walk may have, and how much may still be merged.
 #[derive(Clone, Copy)]
 pub(crate) struct Scope<'d> {
     pub alloc: Global,
     pub document: &'d Document,
     pub most: usize,
+    pub budget: &'d Budget,
 }

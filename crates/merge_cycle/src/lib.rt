@@ -8,3 +8,4 @@ mod how;
 mod outside;
 
 pub use calls::{join_schemas, less_schemas, merge_schemas, with_subschemas};
+pub use merge_steps::{Budget, size_of};

@@ -1,5 +1,6 @@
 //! Small steps outside of the cycle.
 ghost use Rattle.std.specs.Prelude.{◌≡◌, [], Bool, IfOk, List, Some, option_map};
+ghost use Rattle.schema_defs.specs.Schema.{Schema as SchemaOf};
 ghost use Rattle.schema_types.specs.View.{maybe_view, schema_view};
 ghost use Rattle.merge_defs.specs.Outcome.{Note, Outcome, depth, fault};
 ghost use Rattle.merge_apart.specs.View.{aside_view};
@@ -21,6 +22,13 @@ pub(crate) fn too_few(alloc: Global) -> Result<Schema, Stop>
 {
     let locations = Vec::new(alloc);
     Err(Stop::Fault(MergeFault::Depth(Walk { locations })))
+}
+
+/// Where no more may be merged.
+pub(crate) fn used_up() -> Result<Schema, Stop>
+    ensures { (ns ms : List Note) (o : Outcome SchemaOf) → Ends schema_view ns ms o result }
+{
+    Err(Stop::Fault(MergeFault::Memory))
 }
 
 /// What binds the rest, as a plan of members has it.

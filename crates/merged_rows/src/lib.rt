@@ -23,6 +23,7 @@ pub use answered::{annotated, standing};
 pub use deep::is_deep;
 pub use faults::{merge_fault, too_deep};
 pub use instead::Standing;
+pub use merge_cycle::{Budget, size_of};
 pub use merging::{Merging, merge_row, merged_body, merged_members, merged_target};
 pub use notes::{push_merge_notes, push_row_notes};
 pub use owning::owned;

@@ -20,7 +20,7 @@ use crate::places::walk_of;
 use crate::seen::{is_boolean, reference_in};
 use crate::spots::start_at;
 use crate::start::Start;
-use merge_cycle::{join_schemas, merge_schemas, with_subschemas};
+use merge_cycle::{Budget, join_schemas, merge_schemas, with_subschemas};
 use merge_parts::{MergeFault, MergeNote};
 use merge_walked::{to_target, walked};
 use row_findings::{Part, PartKind, Source, Steps};
@@ -28,13 +28,15 @@ use schema_tree::Document;
 use schema_types::Schema;
 use std::alloc::{AllocError, Global};
 
-/// What the merges of rows go by: the document, how many steps a walk may have, and how many levels there are.
+/// What the merges of rows go by: the document, how many steps a walk may have, how many levels there are, and how much
+/// may still be merged.
 #[derive(Clone, Copy)]
 pub struct Merging<'d> {
     pub alloc: Global,
     pub document: &'d Document,
     pub most: u32,
     pub levels: u32,
+    pub budget: &'d Budget,
 }
 
 // A schema that stands at the end of a trail, as merges see it.
@@ -105,6 +107,7 @@ fn merge_with(
         merging.document.parts(),
         merging.most as usize,
         merging.levels,
+        merging.budget,
         notes,
         first,
         second,
@@ -155,6 +158,7 @@ pub fn merged_body(
         merging.document.parts(),
         merging.most as usize,
         merging.levels,
+        merging.budget,
         notes,
         &body,
         &subschemas,
@@ -210,6 +214,7 @@ pub fn merged_members<'d>(
         merging.document.parts(),
         merging.most as usize,
         merging.levels,
+        merging.budget,
         notes,
         all,
     )?;

@@ -5,11 +5,12 @@ ghost use Rattle.convert_defs.specs.Order.{same_place as same_place_of};
 ghost use Rattle.convert_walks.specs.Spot.{branch_at, part_spot, spot_inside, spot_of_branch};
 ghost use Rattle.convert_walks.specs.Told.{note_path as note_path_of};
 ghost use Rattle.row_findings.specs.Given.{source_view};
+ghost use Rattle.row_findings.specs.declared.part.Steps.TheVariants as steps;
 ghost use Rattle.row_findings.specs.View.{branch_view, part_view, steps_view};
 ghost use Rattle.merged_rows.specs.Starts.{handed_to, place_spot, spot_of};
 
 use crate::place::Place;
-use crate::places::{location_of, with_steps};
+use crate::places::{location_of, with_steps, word};
 use crate::spots::{place_inside, start_at};
 use crate::start::Start;
 use row_findings::{Branch, Keyword, Part, PartKind, Source, Steps};
@@ -25,29 +26,37 @@ fn same_place(first: &Location, second: &Location) -> bool
     first.steps == second.steps
 }
 
-fn stands_at(alloc: Global, place: &Location, branch: &Branch<'_>) -> Result<bool, AllocError>
-    ensures { IfOk result (λ b. b ≡ same_place_of place.now (branch_view branch.now).0) }
+#[tactic(auto, using(crate::proofs::Branches::same_by_numbers))]
+fn same_member(keyword: Keyword, index: usize, other: Keyword, place: usize) -> bool
+    ensures { result ≡ same_place_of (steps_view (steps.Placed keyword index)) (steps_view (steps.Placed other place)) }
 {
-    let other = with_steps(alloc, Location::root(alloc), branch.place)?;
-    Ok(same_place(place, &other))
+    index == place && word(keyword) == word(other)
+}
+
+fn same_location(alloc: Global, first: Steps<'_>, second: Steps<'_>) -> Result<bool, AllocError>
+    ensures { IfOk result (λ b. b ≡ same_place_of (steps_view first.entry) (steps_view second.entry)) }
+{
+    let one = with_steps(alloc, Location::root(alloc), first)?;
+    let other = with_steps(alloc, Location::root(alloc), second)?;
+    Ok(same_place(&one, &other))
+}
+
+// Whether both lead to one place. Members of lists, as branches are, are told apart by their numbers, without memory.
+fn same_steps(alloc: Global, first: Steps<'_>, second: Steps<'_>) -> Result<bool, AllocError>
+    ensures { IfOk result (λ b. b ≡ same_place_of (steps_view first.entry) (steps_view second.entry)) }
+{
+    match (first, second) {
+        (Steps::Placed(keyword, index), Steps::Placed(other, place)) => {
+            Ok(same_member(keyword, index, other, place))
+        }
+        _ => {
+            let same = same_location(alloc, first, second)?;
+            Ok(same)
+        }
+    }
 }
 
 // The branch that stands there, or any value.
-fn branch_there<'d>(
-    alloc: Global,
-    branches: &Vec<Branch<'d>>,
-    place: &Location,
-) -> Result<Source<'d>, AllocError>
-    ensures { IfOk result (λ s. source_view s ≡ branch_at place.now (map branch_view branches.now.items)) }
-{
-    for branch in branches {
-        if stands_at(alloc, place, branch)? {
-            return Ok(Source::Written(branch.schema));
-        }
-    }
-    Ok(Source::Bool(true))
-}
-
 fn branch_behind<'d>(
     alloc: Global,
     branches: &Vec<Branch<'d>>,
@@ -55,9 +64,12 @@ fn branch_behind<'d>(
 ) -> Result<Source<'d>, AllocError>
     ensures { IfOk result (λ s. source_view s ≡ branch_at (steps_view steps.entry) (map branch_view branches.now.items)) }
 {
-    let place = with_steps(alloc, Location::root(alloc), steps)?;
-    let branch = branch_there(alloc, branches, &place)?;
-    Ok(branch)
+    for branch in branches {
+        if same_steps(alloc, steps, branch.place)? {
+            return Ok(Source::Written(branch.schema));
+        }
+    }
+    Ok(Source::Bool(true))
 }
 
 // The steps to a branch, and those from it.

@@ -10,7 +10,8 @@ use row_findings::{Keyword, Steps};
 use schema_types::{Location, Walk};
 use std::alloc::{AllocError, Global};
 
-fn word(keyword: Keyword) -> &'static str
+/// The keyword as it is written. It takes no memory.
+pub(crate) fn word(keyword: Keyword) -> &'static str
     ensures { result.now ≡ keyword_view keyword }
 {
     match keyword {

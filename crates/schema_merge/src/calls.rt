@@ -12,7 +12,7 @@ ghost use Rattle.schema_tree.specs.Fault.{fault_view};
 
 use crate::telling::tell;
 use crate::told::Merged;
-use merge_cycle::{less_schemas, merge_schemas, with_subschemas};
+use merge_cycle::{Budget, less_schemas, merge_schemas, size_of, with_subschemas};
 use merge_walked::Side;
 use schema_tree::Fault;
 use schema_types::{Document, Location, Schema, SchemaObject, Subschemas, as_schema};
@@ -67,8 +67,16 @@ fn copy_of(alloc: Global, subschemas: Option<&Subschemas>) -> Result<Option<Subs
     }
 }
 
+fn size_of_all(list: &[Schema]) -> u64 {
+    let mut size = 0u64;
+    for schema in list {
+        size = size.saturating_add(size_of(schema));
+    }
+    size
+}
+
 /// The merge of several schemas from the left; of none it is `true`. Refused are the first walk that is met with more than `depth` steps (`Depth`), and what isn't merged (`Unsupported`, at the
-/// last place of the first schema's walk). `Memory` comes where memory runs out, or more than 400 parts would be merged within one another.
+/// last place of the first schema's walk). `Memory` comes where memory runs out, more than 400 parts would be merged within one another, or more is merged than a `Budget` for the inputs' size has.
 pub fn merge_all(
     alloc: Global,
     document: &Document,
@@ -86,7 +94,16 @@ pub fn merge_all(
         return Err(Fault::Memory);
     };
     let mut notes = Vec::new(alloc);
-    let found = merge_schemas(alloc, document, depth as usize, LEVELS, &mut notes, copies);
+    let budget = Budget::new(size_of_all(list));
+    let found = merge_schemas(
+        alloc,
+        document,
+        depth as usize,
+        LEVELS,
+        &budget,
+        &mut notes,
+        copies,
+    );
     tell(alloc, place, notes, found)
 }
 
@@ -112,11 +129,13 @@ pub fn try_merge_with_subschemas(
         return Err(Fault::Memory);
     };
     let mut notes = Vec::new(alloc);
+    let budget = Budget::new(size_of(&body));
     let found = with_subschemas(
         alloc,
         document,
         depth as usize,
         LEVELS,
+        &budget,
         &mut notes,
         &body,
         &subschemas,
@@ -146,11 +165,13 @@ pub fn subtract(
         return Err(Fault::Memory);
     };
     let mut notes = Vec::new(alloc);
+    let budget = Budget::new(size_of(from).saturating_add(size_of(less)));
     let found = less_schemas(
         alloc,
         document,
         depth as usize,
         LEVELS,
+        &budget,
         &mut notes,
         first,
         second,

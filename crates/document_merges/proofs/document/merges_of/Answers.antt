@@ -12,7 +12,7 @@ returns-clause-found c = λ r.
     let d = document_seen c.args.document.now in
     let most = c.args.depth in
     let m = c.args.levels in
-    c.in_ok-merges_at.ensures.found r (Some (root_name d.root))
+    c.in_ok-merges_within.ensures.found r (Some (root_name d.root))
     ∙ (λ i. (c.in_ok-of_definitions.ensures.found r ∙ ap (λ (ms : List Merge). merges_view ms ++ merges_in (definition_trees r d most m d.definitions)) c.new-merges.ensures.items) i
     ++ merges_in (tree_at r d most m (c.in_ok-start.ensures (Some (root_name d.root)) i) (c.root.ensures i)))
     ∙ sym (merges_of_both (definition_trees r d most m d.definitions) (tree_at r d most m (root_spot r d most m) d.root))

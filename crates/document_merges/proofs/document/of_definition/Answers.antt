@@ -14,7 +14,7 @@ pub returns-in_ok-start-in-Some-clause-found : goal.returns-in_ok-start-in-Some-
 returns-in_ok-start-in-Some-clause-found c =
     let d = document_seen c.args.document.now in
     let n = c.args.name.now in
-    then_ok c.merges_at.result _ _ (λ k r s e.
+    then_ok c.merges_within.result _ _ (λ k r s e.
     k r (Some n)
     ∙ (λ i. merges_view c.args.merges.now.items ++ merges_in (tree_at r d c.args.depth c.args.levels (c.in_ok-start-in-Some.ensures (Some n) i) (schema_view c.in-Some.schema.now)))
-    ∙ ap (λ (s : Schema). merges_view c.args.merges.now.items ++ merges_in (tree_at r d c.args.depth c.args.levels (named_spot d n) s)) (body_is n d.definitions s (schema_view c.in-Some.schema.now) c.in-Some.ensures e)) c.merges_at.ensures.found
+    ∙ ap (λ (s : Schema). merges_view c.args.merges.now.items ++ merges_in (tree_at r d c.args.depth c.args.levels (named_spot d n) s)) (body_is n d.definitions s (schema_view c.in-Some.schema.now) c.in-Some.ensures e)) c.merges_within.ensures.found

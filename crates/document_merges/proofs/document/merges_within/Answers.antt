@@ -6,7 +6,7 @@ use Rattle.merged_rows.specs.Starts.{spot_of}
 use Rattle.row_findings.specs.declared.part.Steps.{Steps}
 use Rattle.document_merges.specs.Merges.{merges_in, merges_view}
 use Rattle.document_merges.proofs.Ends.{then_ok}
-use Rattle.document_merges.proofs.document.merges_at.Goals as goal
+use Rattle.document_merges.proofs.document.merges_within.Goals as goal
 
 pub returns-clause-found : goal.returns-clause-found
 returns-clause-found c =
