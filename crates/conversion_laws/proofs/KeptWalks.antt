@@ -8,7 +8,7 @@ use Rattle.merge_defs.specs.Outcome.{Outcome, fault, depth, mapped}
 use Rattle.merge_defs.specs.Merge.{by_references, with_subschemas_layer, less_layer}
 use Rattle.merge_walks.specs.Carried.{Walk, made_on, own_walk, on_walk, to_target, has_more_steps, carried, maybe_inside, all_inside, list_inside, same_inside, opened, to_child}
 use Rattle.merge_walks.specs.Made.{longer, longest_or, walks_of_same, if_walked, settled, settled_same, settled_named, settled_maybe, settled_list, settled_all, on_made}
-use Rattle.merge_walks.specs.Walked.{walk_of, unless_deep, join_target, join_objects, join_sides, left_side, walked_join, walked_less, walked_with, parts_within, join_by_walks, less_by_walks, merge_by_walks, with_by_walks}
+use Rattle.merge_walks.specs.Walked.{walk_of, walk_left, unless_deep, join_target, join_objects, join_sides, left_side, walked_join, walked_less, walked_with, parts_within, join_by_walks, less_by_walks, merge_by_walks, with_by_walks}
 use Rattle.conversion_laws.specs.Keeping.{Always}
 use Rattle.conversion_laws.proofs.Always.{always-mapped}
 use Rattle.conversion_laws.proofs.KeptLayers.{H, HAll, HSame, HList, HMaybe, Keeps, IsKept, with-subschemas, references-hold, several, less-holds}
@@ -133,15 +133,15 @@ module _ (d : Document) (Reference : List ℕ → Type 0) (OfLists : Lists → T
         unless-deep most a (λ a'. unless_deep most b (join_sides d most join' less' a'))
         (unless-deep most b (join_sides d most join' less' (opened a)) (sides-walked (opened a) (opened b) (opened-holds a x) (opened-holds b y)))
 
-    left-holds : (b : Schema) (w : Walk) (a : Schema) → Holds a → Holds (left_side d most join' less' b w a)
+    left-holds : (b : Schema) (w : Walk) (a : Schema) → Holds a → Holds (left_side b w a)
     left-holds (boolean b) w a h = h
     left-holds (object q tt' ms os) w a h = on_walk-holds (made_on w) a h
 
     pub leaves-walked : Kept (walked_less d most join' less')
     leaves-walked a b x y =
-        unless-deep most a (λ a'. unless_deep most b (λ b'. less_layer d join' less' (left_side d most join' less' b' (longer (walk_of a) (walk_of b)) a') b'))
-        (unless-deep most b (λ b'. less_layer d join' less' (left_side d most join' less' b' (longer (walk_of a) (walk_of b)) (opened a)) b')
-        (less-holds d Reference OfLists OfNamed kept join' less' joins leaves (left_side d most join' less' (opened b) (longer (walk_of a) (walk_of b)) (opened a)) (opened b) (left-holds (opened b) (longer (walk_of a) (walk_of b)) (opened a) (opened-holds a x)) (opened-holds b y)))
+        unless-deep most a (λ a'. unless_deep most b (λ b'. less_layer d join' less' (left_side b' (walk_left a b) a') b'))
+        (unless-deep most b (λ b'. less_layer d join' less' (left_side b' (walk_left a b) (opened a)) b')
+        (less-holds d Reference OfLists OfNamed kept join' less' joins leaves (left_side (opened b) (walk_left a b) (opened a)) (opened b) (left-holds (opened b) (walk_left a b) (opened a) (opened-holds a x)) (opened-holds b y)))
 
     pub with-walked : (b : Schema) (ss : Same) → Holds b → HoldsSame ss → Always Holds (walked_with d most join' less' b ss)
     with-walked b ss x h =

@@ -4,3 +4,4 @@ pub mod Naming
 pub mod Dividing
 pub mod Putting
 pub mod Rowing
+pub mod Walks

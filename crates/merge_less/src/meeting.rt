@@ -9,7 +9,7 @@ ghost use Rattle.merge_defs.specs.Less.{less_values as less_values_of};
 ghost use Rattle.merge_defs.specs.Merge.{less_layer};
 ghost use Rattle.merge_walks.specs.Carried.{made_on as made_on_of, on_walk};
 ghost use Rattle.merge_walks.specs.Made.{longer as longer_of};
-ghost use Rattle.merge_walks.specs.Walked.{left_side as left_side_of, walk_of, walked_less};
+ghost use Rattle.merge_walks.specs.Walked.{has_reference as has_reference_of, left_side as left_side_of, walk_left as walk_left_of, walk_of, walked_less};
 ghost use Rattle.merge_leaves.specs.View.{values_view};
 ghost use Rattle.schema_sameness.specs.Parts.{same_in};
 ghost use Rattle.merge_parts.specs.View.{notes_view};
@@ -32,7 +32,7 @@ use schema_types::{Document, ObjectValidation, Schema, SchemaObject, Subschemas,
 use serde_json::Value;
 use std::alloc::{AllocError, Global};
 
-// ---- the walk of both
+// ---- the walk of what is left
 
 fn walk_of_both(alloc: Global, first: &Schema, second: &Schema) -> Result<Walk, AllocError>
     ensures { IfOk result (λ w. w ≡ longer_of (walk_of (schema_view first.now)) (walk_of (schema_view second.now))) }
@@ -43,6 +43,35 @@ fn walk_of_both(alloc: Global, first: &Schema, second: &Schema) -> Result<Walk, 
     let other = other_side.walk(alloc)?;
     let longer = longer(&walk, &other);
     longer.try_clone(alloc)
+}
+
+fn object_has_reference(object: &SchemaObject) -> bool
+    ensures { result ≡ has_reference_of (object_view object.now) }
+{
+    object.reference.is_some()
+}
+
+fn has_reference(schema: &Schema) -> bool
+    ensures { result ≡ has_reference_of (schema_view schema.now) }
+{
+    match schema {
+        Schema::Bool(_) => false,
+        Schema::Object(object) => object_has_reference(object),
+    }
+}
+
+// A schema with a reference keeps its own walk, which the reference's target goes on with.
+#[tactic(auto, using(crate::proofs::Walks::keeps_own, crate::proofs::Walks::takes_longer))]
+fn walk_left(alloc: Global, first: &Schema, second: &Schema) -> Result<Walk, AllocError>
+    ensures { IfOk result (λ w. w ≡ walk_left_of (schema_view first.now) (schema_view second.now)) }
+{
+    if has_reference(first) {
+        let side = Side::plain(first);
+        let walk = side.walk(alloc)?;
+        return Ok(walk);
+    }
+    let walk = walk_of_both(alloc, first, second)?;
+    Ok(walk)
 }
 
 fn made_on_walk(alloc: Global, walk: Walk, schema: Schema) -> Result<Schema, AllocError>
@@ -59,7 +88,7 @@ fn left_side(
     first: Schema,
     second: &Schema,
 ) -> Result<Schema, AllocError>
-    ensures { IfOk result (λ s. (d : DocumentOf) (n : ℕ) (join less : SchemaOf → SchemaOf → Outcome SchemaOf) → schema_view s ≡ left_side_of d n join less (schema_view second.now) walk (schema_view first)) }
+    ensures { IfOk result (λ s. schema_view s ≡ left_side_of (schema_view second.now) walk (schema_view first)) }
 {
     match second {
         Schema::Bool(_) => Ok(first),
@@ -207,7 +236,7 @@ pub fn meet_less(
     requires { IsGuarded (document_view document.now) }
     ensures { (join less : SchemaOf → SchemaOf → Outcome SchemaOf) → Goes (taking_outcome join less) (notes_view notes.old.items) (notes_view notes.new.items) (walked_less (document_view document.now) most join less (schema_view first.now) (schema_view second.now)) result }
 {
-    let walk = walk_of_both(alloc, first, second)?;
+    let walk = walk_left(alloc, first, second)?;
     let left = entered(alloc, most, first)?;
     let taken = entered(alloc, most, second)?;
     let object = left_side(alloc, walk, left, &taken)?;

@@ -1,5 +1,5 @@
 -- Worked examples of merges by walks.
-use Rattle.std.specs.Prelude.{◌≡◌, ℕ, List, [], ◌∷◌, Some, None, codes}
+use Rattle.std.specs.Prelude.{◌≡◌, ℕ, List, [], ◌∷◌, ◌++◌, Some, None, codes}
 use Prim.Native.String.{String}
 use Rattle.json_value.specs.Value.{Value}
 use Rattle.schema_defs.specs.Location.{Location, place}
@@ -43,6 +43,10 @@ with_property n s = obj ("type" ≔ str "object" ∷ "properties" ≔ obj (n ≔
 abbrev pub all : List Value → Value
 all ms = obj ("allOf" ≔ arr ms ∷ [])
 
+-- a reference under p, from which what stands there under the other's not is taken away
+abbrev pub left_of_reference : List Value
+left_of_reference = obj ("properties" ≔ obj ("p" ≔ ref "#/definitions/A" ∷ []) ∷ []) ∷ obj ("not" ≔ obj ("properties" ≔ obj ("p" ≔ obj [] ∷ []) ∷ []) ∷ []) ∷ []
+
 pub record DepthExamples : Type 0 where
   pub a_target_is_one_step_more : IsDeep 1 all_of_both (at [] ∷ member 0 ∷ definition "A" ∷ [])
   pub a_cycle_ends : IsDeepAt 8 all_of_both (at ("definitions" ∷ "A" ∷ "properties" ∷ "next" ∷ []))
@@ -54,6 +58,8 @@ pub record DepthExamples : Type 0 where
   pub what_is_not_merged_is_not_met : Makes 1 (all (with_property "p" (with_property "q" (typed "string")) ∷ with_property "r" (typed "string") ∷ [])) []
       (obj ("type" ≔ str "object" ∷ "properties" ≔ obj ("p" ≔ with_property "q" (typed "string") ∷ "r" ≔ typed "string" ∷ []) ∷ []))
   pub properties_of_both_are_met : IsDeep 1 (all (with_property "p" (typed "string") ∷ with_property "p" (typed "string") ∷ [])) (at [] ∷ member 0 ∷ member_at 0 ("properties" ∷ "p" ∷ []) ∷ [])
+  pub what_is_left_of_a_reference_leads_on : IsDeep 3 (all_with (ref "#/definitions/B") (typed "string") (left_of_reference ++ with_property "p" (typed "string") ∷ []))
+      (at [] ∷ member 0 ∷ member_at 0 ("properties" ∷ "p" ∷ []) ∷ definition "A" ∷ definition "B" ∷ [])
 
 pub record WalkExamples : Type 0 where
   pub the_first_at_a_tie : IsMade 8 (all (with_property "p" (typed "string") ∷ with_property "q" (typed "string") ∷ [])) [] (at [] ∷ member 0 ∷ [])
@@ -69,6 +75,7 @@ pub record WalkExamples : Type 0 where
   pub a_negation : IsMade 8 (all (with_property "p" (typed "string") ∷ obj ("anyOf" ≔ arr (obj ("required" ≔ arr (str "p" ∷ []) ∷ []) ∷ obj ("required" ≔ arr (str "q" ∷ []) ∷ []) ∷ []) ∷ []) ∷ [])) (codes "anyOf" ∷ place 0 ∷ codes "allOf" ∷ place 2 ∷ [])
       (at [] ∷ member 1 ∷ (codes "allOf" ∷ place 1 ∷ codes "anyOf" ∷ place 1 ∷ []) ∷ [])
   pub a_subtraction : IsMade 8 (all (typed "string" ∷ obj ("not" ≔ obj ("minLength" ≔ num 1 ∷ []) ∷ []) ∷ [])) [] (at [] ∷ member 1 ∷ member_at 1 ("not" ∷ []) ∷ [])
+  pub a_subtraction_from_a_reference : IsMade 8 (all_with yes yes left_of_reference) (at ("properties" ∷ "p" ∷ [])) (at [] ∷ member 0 ∷ member_at 0 ("properties" ∷ "p" ∷ []) ∷ [])
 
 pub record CallExamples : Type 0 where
   pub notes_stand_at_the_first : told_of_root 8 (all (obj ("maximum" ≔ num 1 ∷ []) ∷ obj ("minimum" ≔ num 2 ∷ []) ∷ []))

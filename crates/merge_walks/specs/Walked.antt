@@ -1,5 +1,5 @@
 -- Merging and subtraction by walks: Depth exactly where a walk is met that has more steps than are allowed.
-use Rattle.std.specs.Prelude.{ℕ, zero, suc, List, [], true, false, Option, Some, None}
+use Rattle.std.specs.Prelude.{ℕ, zero, suc, List, [], Bool, true, false, Option, Some, None, is_some, if◌then◌else◌}
 use Rattle.schema_defs.specs.Schema.{Plain, Schema, boolean, object, Same, Lists, Named, Schemas, Document}
 use Rattle.schema_defs.specs.Admits.{target_location}
 use Rattle.merge_defs.specs.Outcome.{Outcome, answer, never, fault, depth, mapped}
@@ -15,6 +15,19 @@ walk_of s = longest_or [] (walks_of s)
 -- a side that is met, unless its walk has more steps than are allowed
 abbrev pub unless_deep : ℕ → Schema → (Schema → Outcome Schema) → Outcome Schema
 unless_deep most s k = elim (has_more_steps most (walk_of s)) [ true ↦ fault (depth (walk_of s)) | false ↦ k (opened s) ]
+
+abbrev pub has_reference : Schema → Bool
+has_reference (boolean b) = false
+has_reference (object p ss ls ns) = is_some p.reference
+
+-- the walk of what is left of a schema: the longer of both; one with a reference keeps its own, which its target goes on with
+abbrev pub walk_left : Schema → Schema → Walk
+walk_left a b = if has_reference a then walk_of a else longer (walk_of a) (walk_of b)
+
+-- what is left where an object is taken away is made; without a boolean a schema is left as it is
+abbrev pub left_side : Schema → Walk → Schema → Schema
+left_side (boolean b) w a = a
+left_side (object q tt' ms os) w a = on_walk (made_on w) a
 
 module _ (d : Document) (most : ℕ) (join less : Schema → Schema → Outcome Schema) where
   -- the target of a reference continues the reference's walk by one step
@@ -39,14 +52,8 @@ module _ (d : Document) (most : ℕ) (join less : Schema → Schema → Outcome 
   abbrev pub walked_join : Schema → Schema → Outcome Schema
   walked_join a b = unless_deep most a (λ a'. unless_deep most b (join_sides a'))
 
-  -- what is left where an object is taken away is made; without a boolean a schema is left as it is
-  abbrev pub left_side : Schema → Walk → Schema → Schema
-  left_side (boolean b) w a = a
-  left_side (object q tt' ms os) w a = on_walk (made_on w) a
-
-  -- it carries the longer of both walks
   abbrev pub walked_less : Schema → Schema → Outcome Schema
-  walked_less a b = unless_deep most a (λ a'. unless_deep most b (λ b'. less_layer d join less (left_side b' (longer (walk_of a) (walk_of b)) a') b'))
+  walked_less a b = unless_deep most a (λ a'. unless_deep most b (λ b'. less_layer d join less (left_side b' (walk_left a b) a') b'))
 
   -- the members stand in the body
   abbrev pub walked_with : Schema → Same → Outcome Schema

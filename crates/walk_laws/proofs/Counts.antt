@@ -7,7 +7,7 @@ use Rattle.merge_defs.specs.Outcome.{Outcome, fault, never, answer, depth, unsup
 use Rattle.merge_defs.specs.Merge.{by_references, join_layer, less_layer, with_subschemas_layer, below, join, less}
 use Rattle.merge_walks.specs.Carried.{Walk, own_walk, on_walk, to_target, has_more_steps, opened, same_inside}
 use Rattle.merge_walks.specs.Made.{longer, settled, on_made}
-use Rattle.merge_walks.specs.Walked.{walk_of, unless_deep, join_target, join_objects, join_sides, left_side, walked_join, walked_less, walked_with, parts_within, join_by_walks, less_by_walks}
+use Rattle.merge_walks.specs.Walked.{walk_of, walk_left, unless_deep, join_target, join_objects, join_sides, left_side, walked_join, walked_less, walked_with, parts_within, join_by_walks, less_by_walks}
 use Rattle.walk_laws.specs.Counted.{HoldsNoWalks, Counts, MergesByWalksCount}
 use Rattle.walk_laws.proofs.Unwalked.{on_walk-same, same_inside-same, opened-same, settled-same, left-same}
 use Rattle.walk_laws.proofs.Commutes.{U, Us, Ul, Un}
@@ -62,13 +62,13 @@ module _ (d : Document) (no_walks : HoldsNoWalks d) (most : ℕ) (join' join'' :
 
   pub leaves-agree : (a b : Schema) → Agrees U (walked_less d most join' less' a b) (less_layer d join'' less'' (U a) (U b))
   leaves-agree a b =
-      unless-agrees most a (λ a'. unless_deep most b (λ b'. less_layer d join' less' (left_side d most join' less' b' (longer (walk_of a) (walk_of b)) a') b')) (less_layer d join'' less'' (U a) (U b))
-      (unless-agrees most b (λ b'. less_layer d join' less' (left_side d most join' less' b' (longer (walk_of a) (walk_of b)) (opened a)) b') (less_layer d join'' less'' (U a) (U b))
-      (subst (λ o. Agrees U (less_layer d join' less' Left (opened b)) o) (λ i. less_layer d join'' less'' ((left-same d most join' less' (opened b) (longer (walk_of a) (walk_of b)) (opened a) ∙ opened-same a) i) (opened-same b i))
+      unless-agrees most a (λ a'. unless_deep most b (λ b'. less_layer d join' less' (left_side b' (walk_left a b) a') b')) (less_layer d join'' less'' (U a) (U b))
+      (unless-agrees most b (λ b'. less_layer d join' less' (left_side b' (walk_left a b) (opened a)) b') (less_layer d join'' less'' (U a) (U b))
+      (subst (λ o. Agrees U (less_layer d join' less' Left (opened b)) o) (λ i. less_layer d join'' less'' ((left-same (opened b) (walk_left a b) (opened a) ∙ opened-same a) i) (opened-same b i))
       (less_agrees join' join'' more less' less'' fewer d Left (opened b))))
     where
       Left : Schema
-      Left = left_side d most join' less' (opened b) (longer (walk_of a) (walk_of b)) (opened a)
+      Left = left_side (opened b) (walk_left a b) (opened a)
 
   pub all-agree : (b : Schema) (ss : Same) → Agrees U (walked_with d most join' less' b ss) (with_subschemas_layer d join'' less'' (U b) (Us ss))
   all-agree b ss = settled-agrees (walk_of b) (with_subschemas_layer d (on_made (walk_of b) join') (on_made (walk_of b) less') (opened b) (same_inside (walk_of b) ss)) (with_subschemas_layer d join'' less'' (U b) (Us ss))

@@ -20,7 +20,7 @@ use Rattle.merge_defs.specs.Less.{left_values, less_values, less_property, less_
 use Rattle.merge_defs.specs.Merge.{drops_siblings, reference_to, stands_for_target, target_merged, tidied, body, two_objects, with_subschemas_layer, by_references, is_exact, less_object, less_layer}
 use Rattle.merge_walks.specs.Carried.{Walk, own_walk, on_walk, to_target, has_more_steps, opened, same_inside}
 use Rattle.merge_walks.specs.Made.{longer, settled, on_made}
-use Rattle.merge_walks.specs.Walked.{walk_of, unless_deep, join_target, join_objects, join_sides, left_side, walked_join, walked_less, walked_with, parts_within, join_by_walks, less_by_walks}
+use Rattle.merge_walks.specs.Walked.{walk_of, walk_left, unless_deep, join_target, join_objects, join_sides, left_side, walked_join, walked_less, walked_with, parts_within, join_by_walks, less_by_walks}
 use Rattle.merge_laws.specs.Bare.{HasNoFault}
 use Rattle.merge_laws.proofs.Ending.{of_both, types, formats, numbers, texts, values}
 use Rattle.walk_laws.specs.Levels.{DepthIsDeep, DepthHasItsWalk}
@@ -436,8 +436,8 @@ module _ (d : Document) (most : ℕ) where
 
     pub leaves_by_walks : (a b : Schema) → Good (Deep most) (walked_less d most join' less' a b)
     leaves_by_walks a b =
-        unless_good a (λ a'. unless_deep most b (λ b'. less_layer d join' less' (left_side d most join' less' b' (longer (walk_of a) (walk_of b)) a') b'))
-        (unless_good b (λ b'. less_layer d join' less' (left_side d most join' less' b' (longer (walk_of a) (walk_of b)) (opened a)) b') (less_good (Deep most) join' joins less' takes d (left_side d most join' less' (opened b) (longer (walk_of a) (walk_of b)) (opened a)) (opened b)))
+        unless_good a (λ a'. unless_deep most b (λ b'. less_layer d join' less' (left_side b' (walk_left a b) a') b'))
+        (unless_good b (λ b'. less_layer d join' less' (left_side b' (walk_left a b) (opened a)) b') (less_good (Deep most) join' joins less' takes d (left_side (opened b) (walk_left a b) (opened a)) (opened b)))
 
     pub all_by_walks : (b : Schema) (ss : Same) → Good (Deep most) (walked_with d most join' less' b ss)
     all_by_walks b ss = settled_good (walk_of b) _ (with_subschemas_good (Deep most) (on_made (walk_of b) join') (λ x y. joins (settled (walk_of b) x) (settled (walk_of b) y)) (on_made (walk_of b) less') (λ x y. takes (settled (walk_of b) x) (settled (walk_of b) y)) d (opened b) (same_inside (walk_of b) ss))

@@ -5,9 +5,9 @@ use Rattle.schema_defs.specs.Schema.{Plain, Schema, boolean, object, Same, Lists
 use Rattle.schema_defs.specs.Admits.{target_location}
 use Rattle.merge_defs.specs.Outcome.{Outcome, fault, never, answer, depth, unsupported}
 use Rattle.merge_defs.specs.Merge.{Merger, less_layer}
-use Rattle.merge_walks.specs.Carried.{made_on, own_walk, on_walk, to_target, has_more_steps, opened, same_inside}
+use Rattle.merge_walks.specs.Carried.{own_walk, on_walk, to_target, has_more_steps, opened, same_inside}
 use Rattle.merge_walks.specs.Made.{longer, settled, on_made}
-use Rattle.merge_walks.specs.Walked.{walk_of, unless_deep, join_target, join_objects, join_sides, left_side, walked_join, walked_less, walked_with, parts_within, join_by_walks, less_by_walks}
+use Rattle.merge_walks.specs.Walked.{walk_of, walk_left, unless_deep, join_target, join_objects, join_sides, left_side, walked_join, walked_less, walked_with, parts_within, join_by_walks, less_by_walks}
 use Rattle.merge_laws.proofs.Growing.{Ties, through, references_stay, less_stays, with_subschemas_stay, schemas_stay}
 use Rattle.walk_laws.specs.Levels.{StaysWithMore, MoreLevelsStay, DeepSidesAreRefused}
 
@@ -45,14 +45,11 @@ module _ (Q : List Location → Type 0) where
 
     pub leaves-tie : (a b : Schema) → Ties Q (walked_less d most join' less' a b) (walked_less d most join'' less'' a b)
     leaves-tie a b =
-        unless-ties most a (λ a'. unless_deep most b (λ b'. less_layer d join' less' (left_side d most join' less' b' (longer (walk_of a) (walk_of b)) a') b'))
-        (λ a'. unless_deep most b (λ b'. less_layer d join'' less'' (left_side d most join'' less'' b' (longer (walk_of a) (walk_of b)) a') b'))
-        (unless-ties most b (λ b'. less_layer d join' less' (left_side d most join' less' b' (longer (walk_of a) (walk_of b)) (opened a)) b')
-        (λ b'. less_layer d join'' less'' (left_side d most join'' less'' b' (longer (walk_of a) (walk_of b)) (opened a)) b') (by (opened b)))
-      where
-        by : (b' : Schema) → Ties Q (less_layer d join' less' (left_side d most join' less' b' (longer (walk_of a) (walk_of b)) (opened a)) b') (less_layer d join'' less'' (left_side d most join'' less'' b' (longer (walk_of a) (walk_of b)) (opened a)) b')
-        by (boolean c) = less_stays Q join' join'' more less' less'' fewer d (opened a) (boolean c)
-        by (object p ss ls ns) = less_stays Q join' join'' more less' less'' fewer d (on_walk (made_on (longer (walk_of a) (walk_of b))) (opened a)) (object p ss ls ns)
+        unless-ties most a (λ a'. unless_deep most b (λ b'. less_layer d join' less' (left_side b' (walk_left a b) a') b'))
+        (λ a'. unless_deep most b (λ b'. less_layer d join'' less'' (left_side b' (walk_left a b) a') b'))
+        (unless-ties most b (λ b'. less_layer d join' less' (left_side b' (walk_left a b) (opened a)) b')
+        (λ b'. less_layer d join'' less'' (left_side b' (walk_left a b) (opened a)) b')
+        (less_stays Q join' join'' more less' less'' fewer d (left_side (opened b) (walk_left a b) (opened a)) (opened b)))
 
     pub with-ties : (b : Schema) (ss : Same) → Ties Q (walked_with d most join' less' b ss) (walked_with d most join'' less'' b ss)
     with-ties b ss = through Q (settled (walk_of b)) _ _
@@ -116,7 +113,7 @@ module _ (d : Document) (most : ℕ) (join' less' : Schema → Schema → Outcom
   Join_rest a' = unless_deep most b (join_sides d most join' less' a')
 
   abbrev Less_last : Schema → Schema → Outcome Schema
-  Less_last a' b' = less_layer d join' less' (left_side d most join' less' b' (longer (walk_of a) (walk_of b)) a') b'
+  Less_last a' b' = less_layer d join' less' (left_side b' (walk_left a b) a') b'
 
   abbrev Less_rest : Schema → Outcome Schema
   Less_rest a' = unless_deep most b (Less_last a')

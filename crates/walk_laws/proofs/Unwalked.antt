@@ -9,7 +9,6 @@ use Rattle.schema_defs.specs.Mapped.{mapped, mapped_same, mapped_lists, mapped_n
 use Rattle.schema_defs.proofs.Mapped.{no_annotation_matters}
 use Rattle.merge_defs.specs.Objects.{is_false}
 use Rattle.merge_walks.specs.Carried.{Walk, to_child, made_on, own_walk, on_walk, carried, maybe_inside, all_inside, list_inside, names_inside, places_inside, same_inside, lists_inside, named_inside, opened}
-use Rattle.merge_defs.specs.Outcome.{Outcome}
 use Rattle.merge_walks.specs.Walked.{left_side}
 use Rattle.merge_walks.specs.Made.{longest_or, walks_of_same, if_walked, settled, settled_same, settled_named, settled_maybe, settled_list, settled_all, settled_properties}
 use Rattle.merge_laws.specs.Laws.{IsProper, ProperSame, ProperLists, ProperNamed, ProperMaybe, ProperList, ProperAll, ProperPlaces, ProperProperties}
@@ -95,10 +94,9 @@ mutual
   settled_properties-same w no_properties = refl
   settled_properties-same w (property n s ps) = λ i. property n (settled-same w s i) (settled_properties-same w ps i)
 
-module _ (d : Document) (most : ℕ) (join' less' : Schema → Schema → Outcome Schema) where
-  pub left-same : (b : Schema) (w : Walk) (a : Schema) → mapped unwalked (left_side d most join' less' b w a) ≡ mapped unwalked a
-  left-same (boolean c) w a = refl
-  left-same (object p ss ls ns) w a = on_walk-same (made_on w) a
+pub left-same : (b : Schema) (w : Walk) (a : Schema) → mapped unwalked (left_side b w a) ≡ mapped unwalked a
+left-same (boolean c) w a = refl
+left-same (object p ss ls ns) w a = on_walk-same (made_on w) a
 
 -- ---- false stays false
 

@@ -12,7 +12,7 @@ use Rattle.merge_defs.specs.Members.{only_same}
 use Rattle.merge_defs.specs.Merge.{less_layer}
 use Rattle.merge_walks.specs.Carried.{Walk, own_walk, on_walk, to_target, has_more_steps, opened, same_inside}
 use Rattle.merge_walks.specs.Made.{longer, settled, on_made}
-use Rattle.merge_walks.specs.Walked.{walk_of, unless_deep, join_target, join_objects, join_sides, left_side, walked_join, walked_less, walked_with, parts_within}
+use Rattle.merge_walks.specs.Walked.{walk_of, walk_left, unless_deep, join_target, join_objects, join_sides, left_side, walked_join, walked_less, walked_with, parts_within}
 use Rattle.merge_laws.specs.Laws.{Meets, IsProper, ProperSame, ProperDocument}
 use Rattle.merge_laws.proofs.Steps.{no_no, meets-wanted, meets-mapped}
 use Rattle.merge_laws.proofs.Objects.{IsFalse}
@@ -96,13 +96,13 @@ module _ (r : Relations) (lawful : IsLawful r) (d : Document) (guarded : IsGuard
 
     -- what is left is taken from this
     abbrev Left : Schema → Schema → Schema
-    Left a b = left_side d most join' less' (opened b) (longer (walk_of a) (walk_of b)) (opened a)
+    Left a b = left_side (opened b) (walk_left a b) (opened a)
 
     left-says : (v : Value) (a b : Schema) → admits r d v (Left a b) ≡ admits r d v a
-    left-says v a b = same-admits r d v (Left a b) (opened a) (left-same d most join' less' (opened b) (longer (walk_of a) (walk_of b)) (opened a)) ∙ opens v a
+    left-says v a b = same-admits r d v (Left a b) (opened a) (left-same (opened b) (walk_left a b) (opened a)) ∙ opens v a
 
     left-proper : (a b : Schema) → IsProper a → IsProper (Left a b)
-    left-proper a b p = same-proper (opened a) (Left a b) (left-same d most join' less' (opened b) (longer (walk_of a) (walk_of b)) (opened a)) (proper_opened a p)
+    left-proper a b p = same-proper (opened a) (Left a b) (left-same (opened b) (walk_left a b) (opened a)) (proper_opened a p)
 
     merges-walked : (v : Value) → is_whole v ≡ true → (a b : Schema) → IsProper a → IsProper b → Meets IsProper (admits r d v a && admits r d v b) (admits r d v) (walked_join d most join' less' a b)
     merges-walked v h a b p q =
@@ -113,8 +113,8 @@ module _ (r : Relations) (lawful : IsLawful r) (d : Document) (guarded : IsGuard
 
     takes-walked : (v : Value) → is_whole v ≡ true → (a b : Schema) → IsProper a → IsProper b → Meets IsProper (admits r d v a && not (admits r d v b)) (admits r d v) (walked_less d most join' less' a b)
     takes-walked v h a b p q =
-        unless-meets (admits r d v a && not (admits r d v b)) (admits r d v) most a (λ a'. unless_deep most b (λ b'. less_layer d join' less' (left_side d most join' less' b' (longer (walk_of a) (walk_of b)) a') b'))
-        (unless-meets (admits r d v a && not (admits r d v b)) (admits r d v) most b (λ b'. less_layer d join' less' (left_side d most join' less' b' (longer (walk_of a) (walk_of b)) (opened a)) b')
+        unless-meets (admits r d v a && not (admits r d v b)) (admits r d v) most a (λ a'. unless_deep most b (λ b'. less_layer d join' less' (left_side b' (walk_left a b) a') b'))
+        (unless-meets (admits r d v a && not (admits r d v b)) (admits r d v) most b (λ b'. less_layer d join' less' (left_side b' (walk_left a b) (opened a)) b')
         (meets-wanted IsProper (admits r d v (Left a b) && not (admits r d v (opened b))) (admits r d v a && not (admits r d v b)) (admits r d v) (less_layer d join' less' (Left a b) (opened b)) (λ i. left-says v a b i && not (opens v b i))
         ((layer r lawful d guarded proper owed join' less' all v h).takes (Left a b) (opened b) (left-proper a b p) (proper_opened b q))))
 

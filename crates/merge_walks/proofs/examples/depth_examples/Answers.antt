@@ -15,4 +15,5 @@ returns c = record {
   targets_go_on = refl;
   what_is_not_merged_is_not_met = refl;
   properties_of_both_are_met = refl;
+  what_is_left_of_a_reference_leads_on = refl;
 }

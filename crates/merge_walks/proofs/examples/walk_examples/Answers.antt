@@ -17,4 +17,5 @@ returns c = record {
   a_joined_member = (refl, refl);
   a_negation = (refl, refl);
   a_subtraction = (refl, refl);
+  a_subtraction_from_a_reference = (refl, refl);
 }

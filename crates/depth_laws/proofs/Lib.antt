@@ -1,0 +1,15 @@
+pub mod Short
+pub mod Fit
+pub mod RowFit
+pub mod Tree
+pub mod Fresh
+pub mod OneMore
+pub mod AllPlaces
+pub mod Bounded
+pub mod EveryChild
+pub mod LedWalks
+pub mod Leading
+pub mod RowLed
+pub mod TreeLed
+pub mod RowNotes
+pub mod TreeNotes
