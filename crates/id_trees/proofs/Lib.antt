@@ -1,0 +1,3 @@
+pub mod Adds
+pub mod Targets
+pub mod Taken

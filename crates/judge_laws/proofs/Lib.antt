@@ -1,0 +1,4 @@
+pub mod Findings
+pub mod SameEntries
+pub mod Trees
+pub mod Tables
