@@ -11,6 +11,7 @@ use Rattle.value_models.specs.declared.value_type.ValueType.{ValueType}
 use Rattle.module_texts.specs.declared.asked.Asked.{Asked}
 use Rattle.module_texts.specs.Asked.{count, has, any_has}
 use Rattle.module_texts.specs.Impls.{impl_of, left_behind}
+use Rattle.module_texts.specs.Docs.{Doc, own_doc, docs_behind}
 use Rattle.module_texts.specs.Items.{item_text, items_text}
 use Rattle.module_texts.specs.Defaults.{default_text, defaults_from}
 
@@ -71,24 +72,28 @@ turn show one shows xs i d old new w h e was =
     next : show (drop i xs) ≡ one (get_or xs i d) ++ show (drop (i + 1) xs)
     next = ap show (drop-cons xs i d h) ∙ shows (get_or xs i d) (drop (suc i) xs) ∙ ap (λ k. one (get_or xs i d) ++ show (drop k xs)) (let k : suc i ≡ i + 1 = omega arith in k)
 
--- one item more, and the constraints that are left
-pub item_turn : (hashed : Bool) (xs : List DeriveInput) (i : ℕ) (d : DeriveInput) (cs left : List Constraint) (old mid new w : List ℕ) → i < length xs → mid ≡ old ++ item_text hashed (item_view (get_or xs i d))
-    → new ≡ mid ++ impl_of (item_view (get_or xs i d)) cs → left ≡ left_behind cs (item_view (get_or xs i d)).name.text
-    → old ++ items_text hashed (map item_view (drop i xs)) cs ≡ w → new ++ items_text hashed (map item_view (drop (i + 1) xs)) left ≡ w
-item_turn hashed xs i d cs left old mid new w h p q l was =
-    (λ j. new ++ items_text hashed (map item_view (drop (i + 1) xs)) (l j))
-    ∙ ap (λ ts. ts ++ rest (i + 1)) (then_more old mid new (item_text hashed e) (impl_of e cs) p q)
-    ∙ append_assoc old (item_text hashed e ++ impl_of e cs) (rest (i + 1))
+-- one item more, and the docs and the constraints that are left
+pub item_turn : (hashed : Bool) (xs : List DeriveInput) (i : ℕ) (d : DeriveInput) (ds docs : List Doc) (cs left : List Constraint) (old mid new w : List ℕ) → i < length xs
+    → mid ≡ old ++ item_text hashed (own_doc ds (item_view (get_or xs i d)).name.text) (item_view (get_or xs i d)) → new ≡ mid ++ impl_of (item_view (get_or xs i d)) cs
+    → docs ≡ docs_behind ds (item_view (get_or xs i d)).name.text → left ≡ left_behind cs (item_view (get_or xs i d)).name.text
+    → old ++ items_text hashed (map item_view (drop i xs)) ds cs ≡ w → new ++ items_text hashed (map item_view (drop (i + 1) xs)) docs left ≡ w
+item_turn hashed xs i d ds docs cs left old mid new w h p q k l was =
+    (λ j. new ++ items_text hashed (map item_view (drop (i + 1) xs)) (k j) (l j))
+    ∙ ap (λ ts. ts ++ rest (i + 1)) (then_more old mid new shown (impl_of e cs) p q)
+    ∙ append_assoc old (shown ++ impl_of e cs) (rest (i + 1))
     ∙ ap (λ ts. old ++ ts) (sym next)
     ∙ was
   where
     e : ItemD
     e = item_view (get_or xs i d)
 
-    rest : ℕ → List ℕ
-    rest k = items_text hashed (map item_view (drop k xs)) (left_behind cs e.name.text)
+    shown : List ℕ
+    shown = item_text hashed (own_doc ds e.name.text) e
 
-    next : items_text hashed (map item_view (drop i xs)) cs ≡ (item_text hashed e ++ impl_of e cs) ++ rest (i + 1)
+    rest : ℕ → List ℕ
+    rest k = items_text hashed (map item_view (drop k xs)) (docs_behind ds e.name.text) (left_behind cs e.name.text)
+
+    next : items_text hashed (map item_view (drop i xs)) ds cs ≡ (shown ++ impl_of e cs) ++ rest (i + 1)
     next =
-        ap (λ ys. items_text hashed (map item_view ys) cs) (drop-cons xs i d h)
-        ∙ ap (λ k. (item_text hashed e ++ impl_of e cs) ++ rest k) (let k : suc i ≡ i + 1 = omega arith in k)
+        ap (λ ys. items_text hashed (map item_view ys) ds cs) (drop-cons xs i d h)
+        ∙ ap (λ k. (shown ++ impl_of e cs) ++ rest k) (let k : suc i ≡ i + 1 = omega arith in k)

@@ -7,7 +7,7 @@ use Rattle.syntax_trees.specs.Item.{MetaD, meta_list, FieldD, named_fields, unna
 use Rattle.syntax_printing.specs.Print.{sign, keyword}
 use Rattle.module_texts.specs.Rules.{text_lines, listed_line}
 use Rattle.module_texts.specs.Defaults.{default_text}
-use Rattle.module_texts.specs.Items.{item_text}
+use Rattle.module_texts.specs.Items.{item_text, items_text}
 use Rattle.module_texts.specs.Module.{root_line}
 
 abbrev pub name_of : List ℕ → Name
@@ -62,15 +62,21 @@ way = item (serde (says (codes "tag") (codes "kind"))) (codes "Way") (enum_body 
 abbrev pub tags : ItemD
 tags = item [] (codes "Tags") (struct_body (unnamed_fields (place (holding (codes "collections") (codes "HashSet") (plain (codes "Way"))) ∷ [])) site)
 
+-- without fields
+abbrev pub empty : List ℕ → ItemD
+empty n = item [] n (struct_body (named_fields []) site)
+
 pub record Modules : Type 0 where
   pub root : root_line (holding (codes "vec") (codes "Vec") (plain (codes "Person"))) ≡ codes "// root ::std::vec::Vec<Person>\n"
-  pub struct_item : item_text false person
+  pub struct_item : item_text false [] person
       ≡ codes "\n#[derive(Clone, Debug, PartialEq, ::serde::Serialize, ::serde::Deserialize)]\n#[serde(deny_unknown_fields)]\npub struct Person {\n    pub name: ::std::string::String,\n    #[serde(default, rename = \"Age\")]\n    pub age: ::std::option::Option<u8>,\n}\n"
-  pub enum_item : item_text true way
+  pub enum_item : item_text true [] way
       ≡ codes "\n#[derive(Clone, Debug, PartialEq, Eq, Hash, ::serde::Serialize, ::serde::Deserialize)]\n#[serde(tag = \"kind\")]\npub enum Way {\n    Off,\n    #[serde(rename = \"to\")]\n    To {\n        x: i64,\n    },\n    By(u8, ::std::string::String),\n}\n"
-  pub set_item : item_text true tags
+  pub set_item : item_text true [] tags
       ≡ codes "\n#[derive(Clone, Debug, PartialEq, Eq, ::serde::Serialize, ::serde::Deserialize)]\npub struct Tags(pub ::std::collections::HashSet<Way>);\n\n// Sets and maps have no hash: each value has the same.\nimpl ::std::hash::Hash for Tags {\n    fn hash<H: ::std::hash::Hasher>(&self, _: &mut H) {}\n}\n"
-  pub empty_item : item_text false (item [] (codes "Nothing") (struct_body (named_fields []) site)) ≡ codes "\n#[derive(Clone, Debug, PartialEq, ::serde::Serialize, ::serde::Deserialize)]\npub struct Nothing {}\n"
+  pub empty_item : item_text false [] (empty (codes "Nothing")) ≡ codes "\n#[derive(Clone, Debug, PartialEq, ::serde::Serialize, ::serde::Deserialize)]\npub struct Nothing {}\n"
+  pub described : items_text false (empty (codes "A") ∷ empty (codes "B") ∷ []) (record { item = codes "B"; text = codes "Title\n\nb" } ∷ []) []
+      ≡ codes "\n#[derive(Clone, Debug, PartialEq, ::serde::Serialize, ::serde::Deserialize)]\npub struct A {}\n\n/// Title\n///\n/// b\n#[derive(Clone, Debug, PartialEq, ::serde::Serialize, ::serde::Deserialize)]\npub struct B {}\n"
   pub bounds : text_lines (Some 1) None (codes "^a.$" ∷ []) [] ≡ codes "        typify_present::at_least(&value, 1)?;\n        typify_present::has(&value, \"^a[^\\\\n\\\\r\\\\x{2028}\\\\x{2029}]$\")?;\n"
   pub one_pattern : text_lines None None [] (codes "a" ∷ codes "b" ∷ []) ≡ codes "        typify_present::has_one(&value, &[\"a\", \"b\"])?;\n"
   pub listed : listed_line (codes "listed") (number (unsigned 1) ∷ number (unsigned 20) ∷ []) ≡ codes "        typify_present::listed(&value, \"[1,20]\")?;\n"

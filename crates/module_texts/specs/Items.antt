@@ -1,11 +1,13 @@
--- Items with their derives, and the conversions that their rules ask.
+-- Items with their docs and derives, and the conversions that their rules ask.
 use Rattle.std.specs.Prelude.{ℕ, List, [], ◌∷◌, ◌++◌, Bool, false, not, ◌&&◌, codes, if◌then◌else◌}
 use Rattle.syntax_trees.specs.Item.{FieldsD, named_fields, unnamed_fields, unit_fields, BodyD, struct_body, enum_body, union_body, ItemD}
 use Rattle.conversion_table.specs.declared.conversions.Constraint.{Constraint}
+use Rattle.tidy_texts.specs.Comment.{doc_comment}
 use Rattle.module_texts.specs.declared.asked.Asked.TheVariants.{Holder, Length}
 use Rattle.module_texts.specs.Asked.{body_has}
 use Rattle.module_texts.specs.Fields.{attribute_lines, braced_text, places_text, variants_text}
 use Rattle.module_texts.specs.Impls.{impl_of, left_behind}
+use Rattle.module_texts.specs.Docs.{Doc, own_doc, docs_behind}
 
 -- std's sets and maps have no `Hash`
 abbrev pub derive_line : Bool → Bool → List ℕ
@@ -48,13 +50,16 @@ abbrev pub is_long : ItemD → Bool
 is_long i = body_has Length false i.body
 
 -- whether it holds a set or a map, and whether it is long, is known
-abbrev pub parts_text : Bool → Bool → Bool → ItemD → List ℕ
-parts_text hashed holder long i =
-    codes "\n" ++ ((if long then long_line else []) ++ (head_text hashed holder i ++ (body_text i.body ++ (codes "\n" ++ hash_where (hashed && holder) i.name.text))))
+abbrev pub parts_text : Bool → Bool → Bool → List ℕ → ItemD → List ℕ
+parts_text hashed holder long doc i =
+    codes "\n"
+    ++ ((if long then long_line else [])
+    ++ (doc_comment doc ++ (head_text hashed holder i ++ (body_text i.body ++ (codes "\n" ++ hash_where (hashed && holder) i.name.text)))))
 
-abbrev pub item_text : Bool → ItemD → List ℕ
-item_text hashed i = parts_text hashed (holds i) (is_long i) i
+-- with a text that is said of it
+abbrev pub item_text : Bool → List ℕ → ItemD → List ℕ
+item_text hashed doc i = parts_text hashed (holds i) (is_long i) doc i
 
-abbrev pub items_text : Bool → List ItemD → List Constraint → List ℕ
-items_text hashed [] cs = []
-items_text hashed (i ∷ is) cs = (item_text hashed i ++ impl_of i cs) ++ items_text hashed is (left_behind cs i.name.text)
+abbrev pub items_text : Bool → List ItemD → List Doc → List Constraint → List ℕ
+items_text hashed [] ds cs = []
+items_text hashed (i ∷ is) ds cs = (item_text hashed (own_doc ds i.name.text) i ++ impl_of i cs) ++ items_text hashed is (docs_behind ds i.name.text) (left_behind cs i.name.text)

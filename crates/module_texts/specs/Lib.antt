@@ -4,6 +4,7 @@ pub mod Fields
 pub mod Values
 pub mod Rules
 pub mod Impls
+pub mod Docs
 pub mod Items
 pub mod Defaults
 pub mod Helpers

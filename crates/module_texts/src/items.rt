@@ -1,14 +1,17 @@
-//! Items with their derives.
+//! Items with their docs and derives.
 ghost use Rattle.std.specs.Prelude.{◌≡◌, ◌++◌, ◌&&◌, OnOk, map, string_bytes, not, if◌then◌else◌, []};
 ghost use Rattle.syntax_trees.specs.Item.{attribute_view, fields_view, variant_view, body_view, item_view};
+ghost use Rattle.module_texts.specs.Docs.{doc_view, own_doc as own_doc_of};
 ghost use Rattle.module_texts.specs.Items.{body_text, derive_line, hash_text, hash_where, head_text, item_text, items_text, keyword, parts_text, struct_text};
 
 use crate::asked::{Asked, body_has};
+use crate::docs::{ItemDoc, docs_behind, own_doc};
 use crate::fields::{push_attributes, push_braced, push_places, push_variants};
 use crate::impls::{left_behind, push_impl_of};
 use conversion_table::Constraint;
 use std::alloc::{AllocError, Global};
 use syntax_trees::{Data, DeriveInput, Fields};
+use tidy_texts::push_doc_comment;
 
 fn push_if(out: &mut String, holds: bool, text: &str) -> Result<(), AllocError>
     ensures { OnOk result (string_bytes out.new ≡ string_bytes out.old ++ (if holds then text.now else [])) }
@@ -124,9 +127,10 @@ fn push_parts(
     hashed: bool,
     holder: bool,
     long: bool,
+    doc: &str,
     item: &DeriveInput,
 ) -> Result<(), AllocError>
-    ensures { OnOk result (string_bytes out.new ≡ string_bytes out.old ++ parts_text hashed holder long (item_view item.now)) }
+    ensures { OnOk result (string_bytes out.new ≡ string_bytes out.old ++ parts_text hashed holder long doc.now (item_view item.now)) }
 {
     out.push_str("\n")?;
     push_if(
@@ -134,6 +138,7 @@ fn push_parts(
         long,
         "// A tuple of more than 12 places or an array of more than 32 stands in it: write these traits yourself.\n",
     )?;
+    push_doc_comment(out, alloc, doc)?;
     push_head(out, alloc, hashed, holder, item)?;
     push_body(out, alloc, &item.body)?;
     out.push_str("\n")?;
@@ -141,35 +146,41 @@ fn push_parts(
     Ok(())
 }
 
+// An item, with its doc where that is the first.
 fn push_item(
     out: &mut String,
     alloc: Global,
     hashed: bool,
+    docs: &[ItemDoc],
     item: &DeriveInput,
 ) -> Result<(), AllocError>
-    ensures { OnOk result (string_bytes out.new ≡ string_bytes out.old ++ item_text hashed (item_view item.now)) }
+    ensures { OnOk result (string_bytes out.new ≡ string_bytes out.old ++ item_text hashed (own_doc_of (map doc_view docs.now) (item_view item.now).name.text) (item_view item.now)) }
 {
+    let doc = own_doc(docs, &item.ident.text);
     let holder = body_has(alloc, Asked::Holder, false, &item.body)?;
     let long = body_has(alloc, Asked::Length, false, &item.body)?;
-    push_parts(out, alloc, hashed, holder, long, item)?;
+    push_parts(out, alloc, hashed, holder, long, doc, item)?;
     Ok(())
 }
 
-/// Appends each item, with the conversion that its rule asks.
+/// Appends each item, with what is said of it, and the conversion that its rule asks.
 #[tactic(auto, using(crate::proofs::Parts::assoc))]
 pub(crate) fn push_items(
     out: &mut String,
     alloc: Global,
     hashed: bool,
     items: &[DeriveInput],
+    docs: &[ItemDoc],
     constraints: &[Constraint],
 ) -> Result<(), AllocError>
-    ensures { OnOk result (string_bytes out.new ≡ string_bytes out.old ++ items_text hashed (map item_view items.now) constraints.now) }
+    ensures { OnOk result (string_bytes out.new ≡ string_bytes out.old ++ items_text hashed (map item_view items.now) (map doc_view docs.now) constraints.now) }
 {
+    let mut docs_left = docs;
     let mut left = constraints;
     for item in items {
-        push_item(out, alloc, hashed, item)?;
+        push_item(out, alloc, hashed, docs_left, item)?;
         push_impl_of(out, alloc, item, left)?;
+        docs_left = docs_behind(docs_left, &item.ident.text);
         left = left_behind(left, &item.ident.text);
     }
     Ok(())

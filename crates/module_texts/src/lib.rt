@@ -1,9 +1,10 @@
-//! Items as the text of one Rust module that compiles as it stands: with derives, the helpers that attributes name, and conversions for rules and stated
+//! Items as the text of one Rust module that compiles as it stands: with docs and derives, the helpers that attributes name, and conversions for rules and stated
 //! defaults.
 #![tactic(auto)]
 
 mod asked;
 mod defaults;
+mod docs;
 pub mod examples;
 mod fields;
 mod helpers;
@@ -15,4 +16,5 @@ mod tokens;
 mod values;
 
 pub use asked::Asked;
+pub use docs::ItemDoc;
 pub use module::push_module;

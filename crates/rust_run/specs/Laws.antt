@@ -6,4 +6,4 @@ use Rattle.schema_words.specs.declared.ended.Ended.TheVariants as ended
 use Rattle.rust_run.specs.Prints.{Prints}
 
 abbrev pub AlwaysAPage : Type 0
-AlwaysAPage = (c : Asking) (all : List ℕ) (before after : Option (List ℕ)) → Ends (λ d. Prints) tells_line c all before after ended.No → ⊥
+AlwaysAPage = (c : Asking) (all : List ℕ) (before after : Option (List ℕ)) → Ends Prints tells_line c all before after ended.No → ⊥

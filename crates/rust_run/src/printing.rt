@@ -1,15 +1,20 @@
 //! The items of a report as a module.
-ghost use Rattle.std.specs.Prelude.{◌≡◌, ◌++◌, IfOk, OnOk, string_bytes};
+ghost use Rattle.std.specs.Prelude.{◌≡◌, ◌++◌, IfOk, OnOk, map, string_bytes};
+ghost use Rattle.serde_json.specs.View.{view};
 ghost use Rattle.syntax_trees.specs.View.{ty as ty_view};
 ghost use Rattle.schema_words.specs.Said.{said_of};
 ghost use Rattle.schema_words.specs.Outcome.{tells_line};
 ghost use Rattle.typify_run.specs.Page.{head};
 ghost use Rattle.typify_run.specs.Headline.{items_of};
 ghost use Rattle.tidy_texts.specs.Comment.{comment};
+ghost use Rattle.module_texts.specs.Docs.{doc_view};
 ghost use Rattle.module_texts.specs.Module.{module_text};
-ghost use Rattle.rust_run.specs.Prints.{Prints, rust_page};
+ghost use Rattle.rust_run.specs.Prints.{Prints, docs_for, rust_page};
 
-use module_texts::push_module;
+use item_docs::item_docs;
+use module_texts::{ItemDoc, push_module};
+use schema_defs::Setting;
+use schema_reading::document;
 use schema_tree::Fault;
 use schema_words::{Answer, Answering};
 use serde_json::Value;
@@ -18,7 +23,7 @@ use tidy_texts::push_comment;
 use typify_run::{Report, head_text};
 
 /// What `rust` answers of a report: always a page, a Rust module with the items. Its first comment has the version, the number of items, the notes, and
-/// the root's type.
+/// the root's type. The items of the definitions and of the root have the titles and descriptions of their schemas as doc comments.
 #[derive(Clone, Copy)]
 pub struct RustPrinting;
 
@@ -30,34 +35,53 @@ fn push_head(out: &mut String, alloc: Global, report: &Report) -> Result<(), All
     Ok(())
 }
 
-fn push_items(out: &mut String, alloc: Global, report: &Report) -> Result<(), AllocError>
-    ensures { OnOk result (string_bytes out.new ≡ string_bytes out.old ++ module_text (items_of report.now) report.now.conversions (ty_view report.now.root)) }
+// What the schema says of the items.
+fn docs_for(alloc: Global, schema: &Value, report: &Report) -> Result<Vec<ItemDoc>, AllocError>
+    ensures { IfOk result (λ v. map doc_view v.items ≡ docs_for (view schema.now) report.now) }
 {
-    push_module(out, alloc, &report.items, &report.conversions, &report.root)?;
+    let found = document(alloc, schema, Setting::Strict)?;
+    match &found {
+        Some(document) => item_docs(alloc, document, &report.root),
+        None => Ok(Vec::new(alloc)),
+    }
+}
+
+fn push_items(
+    out: &mut String,
+    alloc: Global,
+    schema: &Value,
+    report: &Report,
+) -> Result<(), AllocError>
+    ensures { OnOk result (string_bytes out.new ≡ string_bytes out.old ++ module_text (items_of report.now) (docs_for (view schema.now) report.now) report.now.conversions (ty_view report.now.root)) }
+{
+    let docs = docs_for(alloc, schema, report)?;
+    push_module(
+        out,
+        alloc,
+        &report.items,
+        &docs,
+        &report.conversions,
+        &report.root,
+    )?;
     Ok(())
 }
 
-fn page(alloc: Global, report: &Report) -> Result<String, AllocError>
-    ensures { IfOk result (λ s. string_bytes s ≡ rust_page report.now) }
+fn page(alloc: Global, schema: &Value, report: &Report) -> Result<String, AllocError>
+    ensures { IfOk result (λ s. string_bytes s ≡ rust_page (view schema.now) report.now) }
 {
     let mut page = String::from_str(alloc, "// typify 0.8.0\n")?;
     push_head(&mut page, alloc, report)?;
-    push_items(&mut page, alloc, report)?;
+    push_items(&mut page, alloc, schema, report)?;
     Ok(page)
 }
 
 impl Answering for RustPrinting {
-    ghost answers = { λ d. Prints };
+    ghost answers = { Prints };
 
     ghost tells = { tells_line };
 
-    fn answer(
-        &self,
-        alloc: Global,
-        _schema: &Value,
-        report: &Report,
-    ) -> Result<Answer, AllocError> {
-        let page = page(alloc, report)?;
+    fn answer(&self, alloc: Global, schema: &Value, report: &Report) -> Result<Answer, AllocError> {
+        let page = page(alloc, schema, report)?;
         Ok(Answer::Page(page))
     }
 

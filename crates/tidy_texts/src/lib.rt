@@ -8,7 +8,7 @@ pub mod examples;
 mod spot;
 mod tidy;
 
-pub use comment::push_comment;
+pub use comment::{push_comment, push_doc_comment};
 pub use spot::{Before, Spot};
 use std::alloc::{AllocError, Global};
 pub use tidy::push_tidy;

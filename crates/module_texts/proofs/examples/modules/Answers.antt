@@ -13,6 +13,7 @@ returns c = record {
   enum_item = refl;
   set_item = refl;
   empty_item = refl;
+  described = refl;
   bounds = refl;
   one_pattern = refl;
   listed = refl;

@@ -13,4 +13,9 @@ returns c = record {
   attribute = refl;
   empty_comment = refl;
   two_lines = refl;
+  escapes = refl;
+  empty_doc = refl;
+  doc_lines = refl;
+  doc_ended = refl;
+  doc_escapes = refl;
 }

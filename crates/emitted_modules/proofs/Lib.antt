@@ -1,0 +1,4 @@
+pub mod Stand
+pub mod Types
+pub mod Items
+pub mod Texts

@@ -1,0 +1,4 @@
+pub mod Joins
+pub mod Signs
+pub mod Printing
+pub mod Items

@@ -1,0 +1,14 @@
+//! What holds of every page: each law is the contract of a function that does nothing.
+ghost use Rattle.rust_laws.specs.Laws.{DocsStandAtTheirItems, PagesKeepItems};
+
+/// The module on a page is of the report's items, and the tokens of the declaration of each, less comments and derives, are those of its printing, but for `pub`, a comma
+/// behind the last of the fields without names, and whether punctuation is joint.
+pub fn pages_keep_items()
+    ensures { PagesKeepItems }
+{}
+
+/// The first items on a page are those of the definitions, in their order, and above each stands what the schema of its definition says. Of the others only the root's has
+/// such a text: what the root says.
+pub fn docs_stand_at_their_items()
+    ensures { DocsStandAtTheirItems }
+{}

@@ -1,0 +1,4 @@
+pub mod Classes
+pub mod Codes
+pub mod Tokens
+pub mod Kept
