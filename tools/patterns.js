@@ -296,6 +296,16 @@ for (const [pattern, texts] of [
   ["^\u00e9\\b$", ["\u00e9", "\u00e9a"]],
 ]) add(pattern, texts);
 
+for (const [low, high] of [[0xe0, 0xff], [0x370, 0x3ff], [0x410, 0x44f], [0x5d0, 0x5ea], [0x4e00, 0x9fff], [0xac00, 0xd7a3], [0xe000, 0xf8ff], [0xff10, 0xff19], [0x10000, 0x1007f], [0x1f300, 0x1f5ff], [0x100000, 0x10ffff]]) {
+  const texts = [...around(low), ...around(high), at(low) + at(high), "a", "-", ""];
+  const range = `${at(low)}-${at(high)}`;
+  add(`^[${range}]$`, texts);
+  add(`^[^${range}]$`, texts);
+  add(`^[a${range}-]+$`, texts);
+  add(`^[\\s${range}]*?$`, texts.concat(" " + at(low), "\u3000"));
+  add(`^[\\u0000-${at(low)}]$`, texts);
+}
+
 // ---- as schemas have them
 
 for (const [pattern, texts] of [
@@ -360,6 +370,18 @@ for (const [pattern, texts] of [
   ["\\u{61}[]", ["a"]],
   ["\\u{61}[^]", ["a", "a\n"]],
 ]) add(pattern, texts);
+
+for (const code of [0, 9, 0x24, 0x5d, 0x7f, 0x80, 0x7ff, 0x800, 0x2028, 0xd7ff, 0xe000, 0xffff, 0x10000, 0x1f600, 0x10ffff]) {
+  const written = `\\u{${hex(code, code % 2 ? 1 : 6)}}`;
+  add(`^${written}$`, [...around(code), "u", ""]);
+  add(`^[${written}]{2}$`, [...around(code), at(code).repeat(2), at(code).repeat(3)]);
+  add(`^[^${written}]$`, [...around(code), "u", ""]);
+  add(`^[${written}-\\u{10FFFF}]$`, [...around(code), "\u{10ffff}"]);
+}
+for (const [inside, texts] of [["a\\b", ["a", "\b", "b", "\\"]], ["\\b\\t", ["\b", "\t", "t"]], ["\\x00-\\b", ["\0", "\x07", "\b", "\t"]], ["\\b-\\x20", ["\x07", "\b", " ", "!"]], ["^\\b\\s", ["\b", " ", "a"]], ["\\w\\b", ["\b", "b", "-"]]]) {
+  add(`^[${inside}]$`, texts);
+  add(`^[${inside}]+$`, texts.concat(texts[0] + texts[1]));
+}
 
 // ---- what has a meaning here and isn't plain
 

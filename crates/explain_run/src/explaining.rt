@@ -16,10 +16,11 @@ use schema_tree::Fault;
 use schema_words::{Answer, Answering};
 use serde_json::Value;
 use std::alloc::{AllocError, Global};
+use stopped_patterns::push_stops;
 use typify_run::{Report, note_line};
 
 /// What `explain` answers: that the schema compiles, with the number of items and each note with what it means, or its first fault with what it carries, the
-/// rule and what to change; then the keywords that are passed over, and `end`.
+/// rule, what to change, and where reading stops of patterns that stand there and aren't plain; then the keywords that are passed over, and `end`.
 #[derive(Clone, Copy)]
 pub struct Explaining;
 
@@ -83,6 +84,7 @@ fn fault_text(alloc: Global, schema: &Value, fault: &Fault) -> Result<String, Al
     ensures { IfOk result (λ s. string_bytes s ≡ fault_page (value_of (view schema.now)) fault.now) }
 {
     let mut text = fault_explained(alloc, fault)?;
+    push_stops(&mut text, alloc, schema, fault)?;
     push_ending(&mut text, alloc, schema)?;
     Ok(text)
 }

@@ -4,7 +4,7 @@ use Rattle.schema_tree.specs.Fault.{FaultD, memory, malformed, missing_ref, exte
 use Rattle.schema_tree.specs.declared.fault.InvalidKind.{InvalidKind}
 use Rattle.schema_tree.specs.declared.fault.InvalidKind.TheVariants.{Array, Pattern}
 use Rattle.schema_tree.specs.declared.fault.UnsupportedKind.{UnsupportedKind}
-use Rattle.schema_tree.specs.declared.fault.UnsupportedKind.TheVariants.{Conditional, Mix, MixedEnum, NestedEnum, Not, EnumConst, AnyOne, Names, Subtract}
+use Rattle.schema_tree.specs.declared.fault.UnsupportedKind.TheVariants.{Conditional, Mix, MixedEnum, NestedEnum, Not, AnyOne, Names, Subtract}
 
 -- ---- kinds
 
@@ -26,7 +26,6 @@ unsupported_word Mix = codes "Mix"
 unsupported_word MixedEnum = codes "MixedEnum"
 unsupported_word NestedEnum = codes "NestedEnum"
 unsupported_word Not = codes "Not"
-unsupported_word EnumConst = codes "EnumConst"
 unsupported_word AnyOne = codes "AnyOne"
 unsupported_word Names = codes "Names"
 unsupported_word Subtract = codes "Subtract"
@@ -37,7 +36,6 @@ unsupported_rule Mix = codes "Keywords of several kinds stand without a type, or
 unsupported_rule MixedEnum = codes "`enum` lists values of several kinds."
 unsupported_rule NestedEnum = codes "`enum` lists a value that is a list or an object."
 unsupported_rule Not = codes "`not`, alone or beside a type, holds more than a boolean, `{}`, one type with an `enum`, or listed values of one kind."
-unsupported_rule EnumConst = codes "`enum` and `const` stand beside each other."
 unsupported_rule AnyOne = codes "One side of a merge has both `anyOf` and `oneOf`."
 unsupported_rule Names = codes "The names of a map are bound by more than keywords of texts, or rules on names are merged with properties that the other side names."
 unsupported_rule Subtract = codes "In a merge `not` stands beside nothing else, or holds several of `allOf`, `anyOf`, `oneOf` and `not`."
@@ -48,7 +46,6 @@ unsupported_change Mix = codes "Write the type; or, of listed values beside seve
 unsupported_change MixedEnum = codes "Write `oneOf` of one list a kind."
 unsupported_change NestedEnum = codes "Write it as a schema of its parts."
 unsupported_change Not = codes "Say what is admitted instead of what isn't."
-unsupported_change EnumConst = codes "Leave one of them out."
 unsupported_change AnyOne = codes "Put one of them in a member of `allOf` of its own."
 unsupported_change Names = codes "Keep keywords of texts alone under `propertyNames`; write both sides in one schema."
 unsupported_change Subtract = codes "Say what is admitted instead; leave one of these under `not`."

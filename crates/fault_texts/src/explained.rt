@@ -9,8 +9,8 @@ use schema_tree::{Fault, Location, Walk, json_string};
 use serde_json::Value;
 use std::alloc::{AllocError, Global};
 
-// A word, what is said with it, and a line feed.
-fn push_line(out: &mut String, word: &str, said: &str) -> Result<(), AllocError>
+/// A word, what is said with it, and a line feed.
+pub fn push_line(out: &mut String, word: &str, said: &str) -> Result<(), AllocError>
     ensures { OnOk result (string_bytes out.new ≡ string_bytes out.old ++ line_of word.now said.now) }
 {
     out.push_str(word)?;
@@ -20,8 +20,13 @@ fn push_line(out: &mut String, word: &str, said: &str) -> Result<(), AllocError>
     Ok(())
 }
 
-// The same of a text, as a JSON string.
-fn push_quoted(out: &mut String, alloc: Global, word: &str, text: &str) -> Result<(), AllocError>
+/// The same of a text, as a JSON string.
+pub fn push_quoted(
+    out: &mut String,
+    alloc: Global,
+    word: &str,
+    text: &str,
+) -> Result<(), AllocError>
     ensures { OnOk result (string_bytes out.new ≡ string_bytes out.old ++ quoted_line word.now text.now) }
 {
     let quoted = json_string(alloc, text)?;

@@ -49,7 +49,6 @@ pub(crate) fn unsupported_word(kind: UnsupportedKind) -> &'static str
         UnsupportedKind::MixedEnum => "MixedEnum",
         UnsupportedKind::NestedEnum => "NestedEnum",
         UnsupportedKind::Not => "Not",
-        UnsupportedKind::EnumConst => "EnumConst",
         UnsupportedKind::AnyOne => "AnyOne",
         UnsupportedKind::Names => "Names",
         UnsupportedKind::Subtract => "Subtract",
@@ -68,7 +67,6 @@ fn unsupported_rule(kind: UnsupportedKind) -> &'static str
         UnsupportedKind::NestedEnum => "`enum` lists a value that is a list or an object.",
         UnsupportedKind::Not =>
             "`not`, alone or beside a type, holds more than a boolean, `{}`, one type with an `enum`, or listed values of one kind.",
-        UnsupportedKind::EnumConst => "`enum` and `const` stand beside each other.",
         UnsupportedKind::AnyOne => "One side of a merge has both `anyOf` and `oneOf`.",
         UnsupportedKind::Names =>
             "The names of a map are bound by more than keywords of texts, or rules on names are merged with properties that the other side names.",
@@ -89,7 +87,6 @@ fn unsupported_change(kind: UnsupportedKind) -> &'static str
         UnsupportedKind::MixedEnum => "Write `oneOf` of one list a kind.",
         UnsupportedKind::NestedEnum => "Write it as a schema of its parts.",
         UnsupportedKind::Not => "Say what is admitted instead of what isn't.",
-        UnsupportedKind::EnumConst => "Leave one of them out.",
         UnsupportedKind::AnyOne => "Put one of them in a member of `allOf` of its own.",
         UnsupportedKind::Names =>
             "Keep keywords of texts alone under `propertyNames`; write both sides in one schema.",

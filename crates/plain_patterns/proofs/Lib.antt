@@ -1,3 +1,4 @@
 pub mod Digits
 pub mod Members
 pub mod Scanned
+pub mod Unread

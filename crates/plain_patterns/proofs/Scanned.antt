@@ -57,7 +57,7 @@ no_piece_by : (mode : Bool) (n : ℕ) (whole : Option (List ℕ)) (out : List �
 no_piece_by mode zero whole out c t s le h e = absurd (omega arith)
 no_piece_by mode (suc n) whole out c t s le h e = h ∙ ap (option_map (λ w. out ++ w)) (none_read mode n c t s e)
 
-none_written : (o : Option Found) (out : List ℕ) → None ≡ behind out o → o ≡ None
+pub none_written : (o : Option Found) (out : List ℕ) → None ≡ behind out o → o ≡ None
 none_written None out e = refl
 none_written (Some p) out e = absurd (none-some _ e)
 
@@ -76,7 +76,7 @@ abbrev pub found : Kind → List ℕ → Text → Option Found
 found k new u = Some (triple k new u)
 
 -- a piece that was written behind others
-written : (o : Option Found) (out new : List ℕ) (k : Kind) (u : Text) → found k new u ≡ behind out o → (w : List ℕ) × (o ≡ Some (triple k w u)) × (new ≡ out ++ w)
+pub written : (o : Option Found) (out new : List ℕ) (k : Kind) (u : Text) → found k new u ≡ behind out o → (w : List ℕ) × (o ≡ Some (triple k w u)) × (new ≡ out ++ w)
 written None out new k u e = absurd (none-some _ (sym e))
 written (Some p) out new k u e =
     let q : triple k new u ≡ triple p.0 (out ++ p.1) p.2 = same_Some (triple k new u) (triple p.0 (out ++ p.1) p.2) e in

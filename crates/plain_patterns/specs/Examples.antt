@@ -1,6 +1,6 @@
 -- Worked examples: how plain patterns are rewritten, and patterns that are not plain.
 use Rattle.std.specs.Prelude.{◌≡◌, [], ◌∷◌, ◌++◌, Some, None, codes}
-use Rattle.plain_patterns.specs.Plain.{rewritten}
+use Rattle.plain_patterns.specs.Plain.{rewritten, stop_of}
 
 pub record PlainExamples : Type 0 where
   pub empty : rewritten (codes "") ≡ Some (codes "")
@@ -106,3 +106,15 @@ pub record OtherExamples : Type 0 where
   pub start_of_text : rewritten (codes "\\A") ≡ None
   pub letter_in_class : rewritten (codes "[\\B]") ≡ None
   pub range_down_to_hyphen : rewritten (codes "[a--]") ≡ None
+
+pub record StopExamples : Type 0 where
+  pub plain : stop_of (codes "a") ≡ None
+  pub lookahead : stop_of (codes "^ab(?=c)d*") ≡ Some (3, codes "(?=c)d*")
+  pub at_the_front : stop_of (codes "*a") ≡ Some (0, codes "*a")
+  pub eight_characters : stop_of (codes "a**bcdefghi") ≡ Some (2, codes "*bcdefgh")
+  pub open_group : stop_of (codes "a(b") ≡ Some (3, codes "")
+  pub closed_group : stop_of (codes "a)") ≡ Some (1, codes ")")
+  pub class : stop_of (codes "a[z-a]") ≡ Some (1, codes "[z-a]")
+  pub beyond_the_plane : stop_of ((240 ∷ 159 ∷ 152 ∷ 128 ∷ []) ++ codes "+" ++ (195 ∷ 169 ∷ []) ++ codes "\\1" ++ (195 ∷ 169 ∷ [])) ≡ Some (3, codes "\\1" ++ (195 ∷ 169 ∷ []))
+  pub unicode_mode_reads_further : stop_of (codes "\\p{L}(?i)") ≡ Some (5, codes "(?i)")
+  pub other_mode_reads_further : stop_of (codes "\\-\\pL") ≡ Some (2, codes "\\pL")

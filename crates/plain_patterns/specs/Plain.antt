@@ -5,7 +5,7 @@
 -- only mean a letter (`\A`), an octal number or half of a surrogate pair. Each is rewritten for `regex`, which reads some of
 -- these otherwise. A pattern and a text are read as characters, also where the standard reads code units, and what is
 -- written is bytes. In the definitions `u` says that unicode mode is on.
-use Rattle.std.specs.Prelude.{ℕ, zero, suc, ◌+◌, ◌*◌, ◌-◌, ◌%◌, ◌==◌, ◌&&◌, ◌||◌, not, nat_le, min, Bool, true, false, List, [], ◌∷◌, ◌++◌, length, drop, take, chars, codes, encode_utf8, Option, Some, None, is_some, option_map, option_and_then, if◌then◌else◌}
+use Rattle.std.specs.Prelude.{ℕ, zero, suc, ◌+◌, ◌*◌, ◌-◌, ◌%◌, ◌==◌, ◌&&◌, ◌||◌, not, nat_le, nat_lt, min, Bool, true, false, List, [], ◌∷◌, ◌++◌, length, drop, take, chars, codes, encode_utf8, Option, Some, None, is_some, unwrap_or, option_map, option_and_then, if◌then◌else◌}
 use Rattle.std.specs.List.{list_any, flat_map, position_or_len}
 use Rattle.std.specs.Option.{option_or}
 use Rattle.std.specs.Char.{digit_value, is_digit, is_ascii_alphabetic, is_ascii_alphanumeric, is_ascii_digit, is_ascii_punctuation}
@@ -416,3 +416,34 @@ rewritten pattern = option_or (read_in false (chars pattern)) (read_in true (cha
 
 abbrev pub is_plain : List ℕ → Bool
 is_plain pattern = is_some (rewritten pattern)
+
+-- ---- where reading stops
+
+-- behind a piece: what follows, and the state there, where the piece may stand
+abbrev pub stepped : Option Found → State → Option (Text × State)
+stepped found s = found >>= λ p. option_map (λ next. (p.2, next)) (state_after s p.0)
+
+-- what is left of a text from the first piece on that can't stand where it does; the number bounds how many pieces there are
+unfoldable pub unread : Bool → ℕ → Text → State → Text
+unread u n [] s = []
+unread u zero (c ∷ t) s = c ∷ t
+unread u (suc n) (c ∷ t) s = unwrap_or (option_map (λ q. unread u n q.0 q.1) (stepped (piece u c t) s)) (c ∷ t)
+
+abbrev pub unread_in : Bool → Text → Text
+unread_in u t = unread u (length t) t start
+
+-- the shorter of two, or the first
+abbrev pub shorter : Text → Text → Text
+shorter a b = if nat_lt (length b) (length a) then b else a
+
+-- what is left in the mode that reads further
+abbrev pub unread_of : Text → Text
+unread_of t = shorter (unread_in false t) (unread_in true t)
+
+-- how many characters were read, and the next eight
+abbrev pub stop_at : Text → ℕ × List ℕ
+stop_at t = (length t - length (unread_of t), flat_map encode_utf8 (take 8 (unread_of t)))
+
+-- Where reading stops of a pattern that isn't plain. Where nothing is left, a group is open.
+abbrev pub stop_of : List ℕ → Option (ℕ × List ℕ)
+stop_of pattern = if is_plain pattern then None else Some (stop_at (chars pattern))

@@ -1,6 +1,6 @@
 //! Worked examples of the definition: each group is the contract of a function that does nothing.
 
-ghost use Rattle.plain_patterns.specs.Examples.{PlainExamples, OtherExamples};
+ghost use Rattle.plain_patterns.specs.Examples.{PlainExamples, OtherExamples, StopExamples};
 
 /// Patterns that are plain, and how `regex` is to read them.
 pub fn plain_examples()
@@ -10,4 +10,9 @@ pub fn plain_examples()
 /// Patterns that aren't.
 pub fn other_examples()
     ensures { OtherExamples }
+{}
+
+/// Where reading those stops.
+pub fn stop_examples()
+    ensures { StopExamples }
 {}

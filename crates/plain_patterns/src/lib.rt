@@ -13,9 +13,11 @@ mod piece;
 mod property;
 mod scan;
 mod state;
+mod stop;
 
 use scan::write_pieces;
 use std::alloc::{AllocError, Global};
+pub use stop::{Stop, reading_stop};
 
 /// A plain pattern as `regex` is to read it, or nothing where the pattern isn't plain. Plain patterns are those of
 /// ECMA-262 (22.2.1, and B.1.2 for what stands for itself) with alternatives, groups, `(?:`, `.`, classes, `^`, `$`, `\b`,

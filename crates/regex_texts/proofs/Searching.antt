@@ -22,7 +22,7 @@ by_read (Some found) a most names p hay small =
     sym (is_some-option_map spans (find_str a hay 0)) ∙ ap is_some (find_str_alike a found.0.value p.1 hay small 0) ∙ is_some-option_map spans (find_str found.0.value hay 0)
 
 pub searches : (regex : Regex) (source : List ℕ) → regex_source regex ≡ source → regex_config regex ≡ default_config → IsReadFromSource regex
-    → (pattern : List ℕ) → rewritten pattern ≡ Some source → Searches pattern regex
+    → (pattern : List ℕ) → rewritten pattern ≡ Some source → Searches pattern (regex_pattern regex)
 unfolding Reads matches
 searches regex source s d r pattern w = record {
   plain = ap is_some w;

@@ -8,24 +8,26 @@ ghost use Rattle.regex_texts.specs.Searchers.{Searches};
 ghost use Rattle.regex_texts.specs.Refused.{IsRefused};
 ghost use Rattle.schema_defs.specs.Formats.{has_format as of_format};
 ghost use Rattle.schema_defs.specs.Texts.{IsLawful};
-ghost use Rattle.regex.specs.declared.string.regex.Regex.{Regex};
+ghost use Rattle.regex.specs.Strings.{matcher_pattern, regex_pattern};
+ghost use Rattle.regex.specs.declared.string.matcher.Matcher.{Matcher};
 
-use crate::search::{compile, search};
+use crate::search::{compile, searcher};
 use plain_patterns::plain_pattern;
-use regex::{Error, Regex};
+use regex::{Error, Matcher, Regex};
 use schema_defs::Format;
 use schema_texts::{TextFault, Texts, has_format};
 use std::alloc::{AllocError, Global};
 use std::collections::BTreeMap;
 
-/// A judge that searches for plain patterns (ECMA-262, 22.2.1) with `regex`. Each pattern is compiled once. It fails,
-/// and counts that, where `regex` refuses a plain pattern for another cause than want of memory.
+/// A judge that searches for plain patterns (ECMA-262, 22.2.1) with `regex`. Each pattern is compiled once, what
+/// a search finds out is kept for the next text, and what is compiled isn't given back before the program ends. It fails, and counts that,
+/// where `regex` refuses a plain pattern for another cause than want of memory.
 #[derive(Drop)]
 pub struct RegexTexts {
     alloc: Global,
-    compiled: BTreeMap<String, Regex>,
+    compiled: BTreeMap<String, Matcher<'static>>,
     faults: u64,
-    ghost searching: { (pattern : List ℕ) (regex : Regex) → get_by_text compiled pattern ≡ Some regex → Searches pattern regex },
+    ghost searching: { (pattern : List ℕ) (m : Matcher) → get_by_text compiled pattern ≡ Some m → Searches pattern (matcher_pattern m) },
 }
 
 impl RegexTexts {
@@ -82,15 +84,18 @@ impl RegexTexts {
 
     // Keeps what was compiled for a pattern.
     fn keep(&mut self, pattern: &str, regex: Regex) -> Result<bool, TextFault>
-        requires { Searches pattern.now regex }
+        requires { Searches pattern.now (regex_pattern regex) }
         ensures kept { IfOk result (λ b. (b ≡ true) × (is_some (get_by_text self.new.compiled pattern.now) ≡ true)) }
         ensures failed { IsErrOf result TextFault.Failed → ⊥ }
         ensures counts { self.new.faults ≡ self.old.faults }
     {
+        let Ok(matcher) = searcher(self.alloc, regex) else {
+            return Err(TextFault::Memory);
+        };
         let Ok(key) = String::from_str(self.alloc, pattern) else {
             return Err(TextFault::Memory);
         };
-        match self.compiled.insert(key, regex) {
+        match self.compiled.insert(key, matcher) {
             Ok(_) => Ok(true),
             Err(_) => Err(TextFault::Memory),
         }
@@ -122,11 +127,8 @@ impl Texts for RegexTexts {
         ensures memory { IsErrOf result TextFault.Memory → self.new.faults ≡ self.old.faults }
     {
         self.prepare(pattern)?;
-        match self.compiled.get(pattern) {
-            Some(regex) => match search(self.alloc, regex, text) {
-                Ok(found) => Ok(found),
-                Err(_) => Err(TextFault::Memory),
-            },
+        match self.compiled.get_mut(pattern) {
+            Some(matcher) => Ok(matcher.is_match(text)),
             None => Ok(false),
         }
     }

@@ -1,14 +1,13 @@
 //! One pattern compiled, and one search.
-ghost use Rattle.std.specs.Prelude.{◌≡◌, ◌≢◌, IfOk, IfErr, OnOk, is_some, string_bytes, Some, true};
-ghost use Rattle.regex.specs.Patterns.{find_str};
-ghost use Rattle.regex.specs.Strings.{regex_pattern, regex_source, regex_config, IsReadFromSource, IsDefaultFailure};
+ghost use Rattle.std.specs.Prelude.{◌≡◌, ◌≢◌, IfOk, IfErr, Some};
+ghost use Rattle.regex.specs.Strings.{matcher_pattern, regex_pattern, regex_source, regex_config, IsReadFromSource, IsDefaultFailure};
 ghost use Rattle.regex.specs.Failures.{HasSpanIn, IsRightKind};
 ghost use Rattle.regex.specs.Sources.{IsRefusal};
 ghost use Rattle.regex_syntax.specs.Verdict.{default_config};
 ghost use Rattle.plain_patterns.specs.Plain.{rewritten};
 ghost use Rattle.regex_texts.specs.Searchers.{Searches};
 
-use regex::{Error, Regex, RegexBuilder};
+use regex::{Error, Matcher, Regex, RegexBuilder};
 use std::alloc::{AllocError, Global};
 
 /// About how many bytes a compiled pattern may take: as many as a class of all letters that is counted up to 1,024 times.
@@ -16,7 +15,7 @@ const SIZE_LIMIT: usize = 67_108_864;
 
 /// Compiles what is written for a plain pattern.
 pub fn compile(alloc: Global, source: &str) -> Result<Regex, Error>
-    ensures searches { IfOk result (λ regex. (pattern : _) → rewritten pattern ≡ Some source.now → Searches pattern regex) }
+    ensures searches { IfOk result (λ regex. (pattern : _) → rewritten pattern ≡ Some source.now → Searches pattern (regex_pattern regex)) }
     ensures refused { IfErr result (IsDefaultFailure source.now) }
     ensures no_internal { IfErr result (λ e. e ≢ Error.Internal) }
 {
@@ -39,10 +38,11 @@ fn built(alloc: Global, source: &str) -> Result<Regex, Error>
         .build(alloc)
 }
 
-/// Whether the text has a match.
-pub fn search(alloc: Global, regex: &Regex, text: &str) -> Result<bool, AllocError>
-    ensures { IfOk result (λ found. found ≡ is_some (find_str (regex_pattern regex.now) text.now 0)) }
+/// What searches by it, and keeps from one text to the next what it has found out. What was compiled is never given back.
+pub fn searcher(alloc: Global, regex: Regex) -> Result<Matcher<'static>, AllocError>
+    ensures { IfOk result (λ m. matcher_pattern m ≡ regex_pattern regex) }
 {
-    let mut matcher = regex.matcher(alloc)?;
-    Ok(matcher.is_match(text))
+    let boxed = Box::new(alloc, regex)?;
+    let lasting: &'static Regex = Box::leak(boxed);
+    lasting.matcher(alloc)
 }
