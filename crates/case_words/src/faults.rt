@@ -70,7 +70,6 @@ fn unsupported_word(kind: UnsupportedKind) -> &'static str {
         UnsupportedKind::MixedEnum => "Unsupported MixedEnum",
         UnsupportedKind::NestedEnum => "Unsupported NestedEnum",
         UnsupportedKind::Not => "Unsupported Not",
-        UnsupportedKind::EnumConst => "Unsupported EnumConst",
         UnsupportedKind::AnyOne => "Unsupported AnyOne",
         UnsupportedKind::Names => "Unsupported Names",
         UnsupportedKind::Subtract => "Unsupported Subtract",

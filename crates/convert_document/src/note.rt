@@ -1,8 +1,9 @@
 //! Notes: where the items take other values than the schema admits.
-ghost use Rattle.std.specs.Prelude.{◌≡◌};
+ghost use Rattle.std.specs.Prelude.{◌≡◌, IfOk};
 ghost use Rattle.convert_document.specs.Note.{way_text, kind_text};
 
 use schema_tree::Location;
+use std::alloc::{AllocError, Global};
 
 /// How the items differ: they take less, or they take more.
 #[derive(Clone, Copy, Debug, PartialEq, Eq)]
@@ -43,6 +44,19 @@ pub struct Note {
     pub way: Way,
     pub kind: NoteKind,
     pub path: Location,
+}
+
+impl Note {
+    /// A copy. Fails only for want of memory.
+    pub fn try_clone(&self, alloc: Global) -> Result<Note, AllocError>
+        ensures { IfOk result (λ n. n ≡ self.now) }
+    {
+        Ok(Note {
+            way: self.way,
+            kind: self.kind,
+            path: self.path.try_clone(alloc)?,
+        })
+    }
 }
 
 impl Way {

@@ -9,7 +9,8 @@ mod leaving;
 mod space;
 
 pub use entry_types::{
-    Content, FieldEntry, IntName, ItemEntry, ItemShape, State, TypeEntry, TypeId, VariantEntry,
+    Content, FieldEntry, IntName, ItemEntry, ItemShape, STD_NUM_NONZERO_PREFIX, State, TypeEntry,
+    TypeId, VariantEntry,
 };
 pub use iter::TypeEntries;
 pub use space::EntrySpace;

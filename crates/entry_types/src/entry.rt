@@ -2,6 +2,9 @@
 use crate::item::ItemEntry;
 use schema_defs::Format;
 
+/// What the paths of nonzero integers begin with, `::std::num::NonZeroU8` to `::std::num::NonZeroU64`.
+pub const STD_NUM_NONZERO_PREFIX: &str = "::std::num::NonZero";
+
 /// The number of an entry in its space.
 #[derive(Clone, Copy, PartialEq, Eq, Hash)]
 pub struct TypeId(pub u32);

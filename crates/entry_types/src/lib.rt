@@ -4,5 +4,5 @@
 mod entry;
 mod item;
 
-pub use entry::{IntName, TypeEntry, TypeId};
+pub use entry::{IntName, STD_NUM_NONZERO_PREFIX, TypeEntry, TypeId};
 pub use item::{Content, FieldEntry, ItemEntry, ItemShape, State, VariantEntry};

@@ -106,7 +106,6 @@ pub enum UnsupportedKind {
     MixedEnum,
     NestedEnum,
     Not,
-    EnumConst,
     AnyOne,
     Names,
     Subtract,

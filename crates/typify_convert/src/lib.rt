@@ -14,7 +14,7 @@ mod target;
 
 pub use convert_document::{Emitted, Note, NoteKind, Way};
 pub use entry_space::{
-    Content, FieldEntry, IntName, ItemEntry, ItemShape, State, TypeEntries, TypeEntry, TypeId,
-    VariantEntry,
+    Content, FieldEntry, IntName, ItemEntry, ItemShape, STD_NUM_NONZERO_PREFIX, State, TypeEntries,
+    TypeEntry, TypeId, VariantEntry,
 };
 pub use space::TypeSpace;
