@@ -55,6 +55,54 @@ Status: 0 a page was printed, 1 one line names a fault, 2 other words, 3 the inp
 4 reading failed, 5 writing failed, 6 memory ran out, 7 more than 4,294,967,296 bytes came, 8 there is no description, the
 new items don't read what the old ones write, or there is no example or it can't be told.";
 
+const CHECK_HELP: &str = "typify check DEPTH [--null-absent]
+
+Reads one JSON object with exactly the members `schema`, a JSON Schema, and `values`, a list, from standard input (at most
+16,777,216 bytes), compiles the schema, and prints the number of items, a line for each note, a line for each value, and
+`end`. DEPTH is from 1 to 512, and bounds how many steps lead from a definition or the root to a schema of it; 64 serves.
+With --null-absent null may stand for the absence of a property that isn't required. `tools/bundle SCHEMA.json --values
+FILE` makes such an object of files.
+
+    $ echo '{\"schema\":{\"type\":\"integer\",\"format\":\"uint8\"},\"values\":[5,300]}' | typify check 64
+    items 0
+    value 0 taken 5
+    value 1 refused \"#\"
+    end
+
+A value is taken, with what it is written back as, or refused, with the place. A note, `note WAY KIND PATH`, says that the
+items don't take exactly the values that the schema admits, and where: WAY is Widened where they take more, Narrowed where
+they take fewer. Where none is printed they take exactly those, among values whose numbers are i64. `explain` says of a
+schema what its notes, or the fault that keeps it from being compiled, mean.
+
+Status: 0 the page was printed, 1 one line names a fault, 2 other words, 3 the input is too long or isn't that object,
+4 reading failed, 5 writing failed, 6 memory ran out.";
+
+const ITEMS_HELP: &str = "typify items DEPTH [--null-absent]
+
+Reads what `check` reads, passes over the values, and prints each item on a line, as serde's derives read it, with one
+space between two tokens, then `end`. DEPTH and --null-absent are those of `check`. `rust` prints them as a module.
+
+    $ echo '{\"schema\":{\"title\":\"Point\",\"type\":\"object\",\"required\":[\"x\"],\"properties\":{\"x\":{\"type\":\"integer\"}}},\"values\":[]}' | typify items 64
+    struct Point { x : i64 , }
+    end
+
+Status: 0 the page was printed, 1 one line names a fault, 2 other words, 3 the input is too long or isn't that object,
+4 reading failed, 5 writing failed, 6 memory ran out.";
+
+const SAMPLE_HELP: &str = "typify sample N
+
+Reads nothing: examines a schema of N definitions, from 1 to 999, and N values that it makes itself, and prints how many
+items, notes and taken values there are. It serves to measure the program.
+
+    $ typify sample 3
+    sample 3
+    items 4
+    notes 0
+    taken 3
+    end
+
+Status: 0 the counts were printed, 2 other words, 5 writing failed, 6 memory ran out.";
+
 const DESCRIBE_HELP: &str = "typify describe DEPTH [--null-absent]
 
 Reads a JSON Schema as it is from standard input (at most 16,777,216 bytes), compiles it as `check` does, and prints the
@@ -112,8 +160,9 @@ items as one Rust module, which compiles as it stands. DEPTH and --null-absent a
 
 The module begins with a comment: the version, the number of items, a line for each note, and the type that stands for the
 schema. Then come helpers that attributes name, a function for each default that is stated, and each item with `pub`,
-derives and serde's attributes; a newtype with a rule has a `TryFrom` that asks it. It stands on serde (with derive) and
-serde_json, and, where a type or a rule names them, on uuid and chrono (with serde) and regex. docs/USING.md goes through it.
+derives and serde's attributes; a newtype with a rule has a `TryFrom` that asks it. The titles and descriptions of the root
+and of the definitions stand above their items. It stands on serde (with derive) and serde_json, and, where a type or a
+rule names them, on uuid and chrono (with serde) and regex. docs/USING.md goes through it.
 
 Std and serde have no traits for tuples of more than 12 places and arrays of more than 32: a comment says where one
 stands, and its traits are yours to write.
@@ -136,8 +185,9 @@ comes of it. DEPTH and --null-absent are those of `check`.
 
 Where it compiles there are the number of items, and the line of each note with a line `means`. Where it doesn't there is
 the line of the first fault, as `check` prints it, then lines for what it carries (`keyword`, `reference`, `step`, `value`,
-`places` or `kind`), a line `rule` and a line `change`. Behind either a line `passed-over KEYWORD PLACE` names each keyword
-of the schema that isn't read though it binds values or names schemas in some draft of JSON Schema. docs/FAULTS.md and
+`places` or `kind`), a line `rule` and a line `change`; then, of each pattern there that isn't plain, a line `pattern` and
+a line `reading` that says where reading it stops. Behind either a line `passed-over KEYWORD PLACE` names each keyword of
+the schema that isn't read though it binds values or names schemas in some draft of JSON Schema. docs/FAULTS.md and
 docs/NOTES.md say more of each fault and each note.
 
 Status: 0 it compiles, 1 it has a fault, 2 other words, 3 the input is too long or isn't JSON, 4 reading failed, 5 writing
@@ -209,12 +259,12 @@ fn hint(word: &str, status: u8) -> Option<&'static str> {
             "typify: the first line isn't one JSON text: there may be none, it may be a part of one, begin with a byte order mark, be nested more than 127 deep, or be longer than 1,048,576 bytes",
         ),
         3 => Some(
-            "typify: the input isn't one JSON object with exactly the members `schema` and `values`, a list: it may be a bare schema, lack a member or have another, end early, begin with a byte order mark, be nested more than 127 deep, or be longer than 16,777,216 bytes",
+            "typify: the input isn't one JSON object with exactly the members `schema` and `values`, a list: it may be a bare schema, lack a member or have another, end early, begin with a byte order mark, be nested more than 127 deep, or be longer than 16,777,216 bytes; `typify explain 64` reads a bare schema, and names the line of what isn't JSON",
         ),
         4 => Some("typify: reading standard input failed"),
         5 => Some("typify: writing to standard output failed"),
         6 => Some(
-            "typify: memory ran out, or more than 300 schemas stand in one another, or a value or a default is more than 1,000 levels deep, or an example is made of more than 1,000,000 types",
+            "typify: memory ran out, or more than 300 schemas stand in one another, or more than 20,000,000 parts would be merged, or a value or a default is more than 1,000 levels deep, or an example is made of more than 1,000,000 types",
         ),
         7 => Some("typify: more than 4,294,967,296 bytes came"),
         _ => None,
@@ -233,8 +283,12 @@ fn told(word: &str) -> Option<&'static str> {
 /// The text that a word and what stands behind it ask for.
 fn told_of(word: &str, about: &str) -> Option<&'static str> {
     match word {
-        "check" | "items" | "sample" if about == "--help" || about == "-h" => Some(HELP),
-        "help" if about == "check" || about == "items" || about == "sample" => Some(HELP),
+        "check" if about == "--help" || about == "-h" => Some(CHECK_HELP),
+        "help" if about == "check" => Some(CHECK_HELP),
+        "items" if about == "--help" || about == "-h" => Some(ITEMS_HELP),
+        "help" if about == "items" => Some(ITEMS_HELP),
+        "sample" if about == "--help" || about == "-h" => Some(SAMPLE_HELP),
+        "help" if about == "sample" => Some(SAMPLE_HELP),
         "describe" if about == "--help" || about == "-h" => Some(DESCRIBE_HELP),
         "help" if about == "describe" => Some(DESCRIBE_HELP),
         "covers" if about == "--help" || about == "-h" => Some(COVERS_HELP),
