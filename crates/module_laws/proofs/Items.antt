@@ -12,12 +12,14 @@ use Rattle.rust_syntax.specs.PrintItem.{print_attribute, print_attributes, print
 use Rattle.tidy_texts.specs.Comment.{doc_comment}
 use Rattle.tidy_laws.proofs.Kept.{IsRead, read_has}
 use Rattle.module_texts.specs.Tokens.{attribute_text, type_text}
-use Rattle.module_texts.specs.Fields.{attribute_line, attribute_lines, label, field_line, field_lines, braced_text, attributes_inline, place_text, more_places, places_text, variant_fields, variant_line, variant_lines, variants_text}
+use Rattle.module_texts.specs.Attributes.{attribute_lines}
+use Rattle.module_texts.specs.Fields.{label, broken_label, plain_field, broken_field, is_wide_field, declared_field, field_line, field_lines, braced_text, attributes_inline, place_text, more_places, places_text, variant_fields, variant_line, variant_lines, variants_text}
 use Rattle.module_texts.specs.Items.{keyword, struct_text, body_text, derive_line, long_line, hash_where, holds, is_long, item_text}
 use Rattle.module_laws.specs.Shown.{visible, shown_field, shown_each, shown_more, shown_places, shown_fields, shown_variant, shown_variants, shown_struct, shown_body, shown_item}
 use Rattle.module_laws.specs.Laws.{declared_text, text_before, text_behind, IsBare, ItemsKeepTokens}
 use Rattle.module_laws.proofs.Joins.{IsBefore, IsStopping, before_then, before_read, read_then, stopping_then, before_is, read_is, stopping_is, stopping_text, Are, are_first, are_last, are_inside, tokens_read, name_read}
-use Rattle.module_laws.proofs.Signs.{nothing, newline, space, four, eight, pub_word, struct_word, enum_word, union_word, comma_line, comma, colon, semicolon, opening_line, closing_brace, no_braced, opening, closing, no_places}
+use Rattle.module_laws.proofs.Signs.{nothing, space, four, eight, pub_word, struct_word, enum_word, union_word, comma_line, comma, colon, colon_line, semicolon, opening_line, closing_brace, no_braced, opening, closing, no_places}
+use Rattle.module_laws.proofs.Attributes.{attributes_read}
 use Rattle.module_laws.proofs.Printing.{shown_is_printed}
 
 abbrev P : List Tok → List Piece
@@ -27,19 +29,6 @@ abbrev end_comma : Piece
 end_comma = sign 44 Alone
 
 -- ---- attributes
-
-attribute_reads : (indent : List ℕ) → IsBefore indent [] → (m : MetaD) → Are (print_attribute m) → IsBefore (attribute_line indent m) (P (print_attribute m))
-attribute_reads indent k m h =
-    before_then indent (attribute_text m ++ codes "\n") [] (P (print_attribute m)) k
-    (before_is (attribute_text m ++ codes "\n") (P (print_attribute m) ++ []) (P (print_attribute m)) (append-nil (P (print_attribute m)))
-    (read_then (attribute_text m) (codes "\n") (P (print_attribute m)) [] (tokens_read (print_attribute m) h) newline))
-
-attributes_read : (indent : List ℕ) → IsBefore indent [] → (ms : List MetaD) → Are (print_attributes ms) → IsBefore (attribute_lines indent ms) (P (print_attributes ms))
-attributes_read indent k [] h = nothing
-attributes_read indent k (m ∷ ms) h =
-    before_is (attribute_lines indent (m ∷ ms)) (P (print_attribute m) ++ P (print_attributes ms)) (P (print_attributes (m ∷ ms))) (sym (pieces_of_append (print_attribute m) (print_attributes ms)))
-    (before_then (attribute_line indent m) (attribute_lines indent ms) (P (print_attribute m)) (P (print_attributes ms))
-    (attribute_reads indent k m (are_first (print_attribute m) (print_attributes ms) h)) (attributes_read indent k ms (are_last (print_attribute m) (print_attributes ms) h)))
 
 inline_reads : (ms : List MetaD) → Are (print_attributes ms) → IsBefore (attributes_inline ms) (P (print_attributes ms))
 inline_reads [] h = nothing
@@ -53,6 +42,13 @@ inline_reads (m ∷ ms) h =
 label_reads : (o : Option Name) → Are (print_label o) → IsBefore (label o) (P (print_label o))
 label_reads None h = nothing
 label_reads (Some n) h = read_then n.text (codes ": ") (name n.text ∷ []) (sign 58 Alone ∷ []) (name_read n h.0) colon
+
+-- with the type on the next line
+broken_label_reads : (indent : List ℕ) → IsBefore indent [] → (o : Option Name) → Are (print_label o) → IsBefore (broken_label indent o) (P (print_label o))
+broken_label_reads indent k None h = nothing
+broken_label_reads indent k (Some n) h =
+    read_then n.text (codes ":\n" ++ (indent ++ codes "    ")) (name n.text ∷ []) (sign 58 Alone ∷ []) (name_read n h.0)
+    (stopping_then (codes ":\n") (indent ++ codes "    ") (sign 58 Alone ∷ []) [] colon_line (before_then indent (codes "    ") [] [] k four))
 
 -- ---- fields
 
@@ -95,6 +91,26 @@ each_is : (seen : Bool) (f : FieldD) (fs : List FieldD) → (P (shown_field seen
 each_is seen f fs = append_assoc (P (shown_field seen f)) (end_comma ∷ []) (P (shown_each seen fs)) ∙ sym (pieces_of_append (shown_field seen f) (print_sign 44 ∷ shown_each seen fs))
 
 module _ (inner visibility : List ℕ) (seen : Bool) (i : IsBefore inner []) (v : IsBefore visibility (P (visible seen))) where
+  declared_case : (f : FieldD) → HasParts f → (b : Bool) → IsBefore (if b then broken_field inner visibility f else plain_field inner visibility f) (P (visible seen) ++ (P (print_label f.name) ++ (P (print_ty f.ty) ++ end_comma ∷ [])))
+  declared_case f p true =
+      let V = P (visible seen) in
+      let L = P (print_label f.name) in
+      let T = P (print_ty f.ty) in
+      let c : List Piece = end_comma ∷ [] in
+      before_then inner (visibility ++ (broken_label inner f.name ++ (type_text f.ty ++ codes ",\n"))) [] (V ++ (L ++ (T ++ c))) i
+      (before_then visibility (broken_label inner f.name ++ (type_text f.ty ++ codes ",\n")) V (L ++ (T ++ c)) v
+      (before_then (broken_label inner f.name) (type_text f.ty ++ codes ",\n") L (T ++ c) (broken_label_reads inner i f.name p.label)
+      (read_then (type_text f.ty) (codes ",\n") T c (tokens_read (print_ty f.ty) p.type) comma_line)))
+  declared_case f p false =
+      let V = P (visible seen) in
+      let L = P (print_label f.name) in
+      let T = P (print_ty f.ty) in
+      let c : List Piece = end_comma ∷ [] in
+      before_then inner (visibility ++ (label f.name ++ (type_text f.ty ++ codes ",\n"))) [] (V ++ (L ++ (T ++ c))) i
+      (before_then visibility (label f.name ++ (type_text f.ty ++ codes ",\n")) V (L ++ (T ++ c)) v
+      (before_then (label f.name) (type_text f.ty ++ codes ",\n") L (T ++ c) (label_reads f.name p.label)
+      (read_then (type_text f.ty) (codes ",\n") T c (tokens_read (print_ty f.ty) p.type) comma_line)))
+
   field_reads : (f : FieldD) → Are (print_field f) → IsBefore (field_line inner visibility f) (P (shown_field seen f) ++ end_comma ∷ [])
   field_reads f h =
       let p = parts_of f h in
@@ -104,11 +120,7 @@ module _ (inner visibility : List ℕ) (seen : Bool) (i : IsBefore inner []) (v 
       let T = P (print_ty f.ty) in
       let c : List Piece = end_comma ∷ [] in
       before_is (field_line inner visibility f) (A ++ (V ++ (L ++ (T ++ c)))) (P (shown_field seen f) ++ c) (regrouped A V L T c ∙ ap (λ z. z ++ c) (sym (field_is seen f)))
-      (before_then (attribute_lines inner f.attrs) (inner ++ (visibility ++ (label f.name ++ (type_text f.ty ++ codes ",\n")))) A (V ++ (L ++ (T ++ c))) (attributes_read inner i f.attrs p.attributes)
-      (before_then inner (visibility ++ (label f.name ++ (type_text f.ty ++ codes ",\n"))) [] (V ++ (L ++ (T ++ c))) i
-      (before_then visibility (label f.name ++ (type_text f.ty ++ codes ",\n")) V (L ++ (T ++ c)) v
-      (before_then (label f.name) (type_text f.ty ++ codes ",\n") L (T ++ c) (label_reads f.name p.label)
-      (read_then (type_text f.ty) (codes ",\n") T c (tokens_read (print_ty f.ty) p.type) comma_line)))))
+      (before_then (attribute_lines inner f.attrs) (declared_field inner visibility f) A (V ++ (L ++ (T ++ c))) (attributes_read inner i f.attrs p.attributes) (declared_case f p (is_wide_field inner visibility f)))
 
   fields_read : (fs : List FieldD) → Are (print_each_field fs) → IsBefore (field_lines inner visibility fs) (P (shown_each seen fs))
   fields_read [] h = nothing

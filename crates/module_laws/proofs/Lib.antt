@@ -1,4 +1,5 @@
 pub mod Joins
 pub mod Signs
 pub mod Printing
+pub mod Attributes
 pub mod Items

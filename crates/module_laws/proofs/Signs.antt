@@ -1,7 +1,8 @@
 -- The signs and words between the parts of an item.
 use Rattle.std.proofs.Common.{◌≡◌, ℕ, List, [], ◌∷◌, refl, codes, encode_utf8_all}
 use Rattle.unicode_ident.proofs.Computing.{unicode_ident}
-use Rattle.token_trees.specs.declared.token.Delimiter.TheVariants.{Parenthesis, Brace}
+use Rattle.token_trees.specs.declared.token.Delimiter.TheVariants.{Parenthesis, Brace, Bracket}
+use Rattle.token_trees.specs.declared.token.Spacing.{Spacing}
 use Rattle.token_trees.specs.declared.token.Spacing.TheVariants.{Alone}
 use Rattle.token_trees.specs.Text.{Piece, name, sign, opens, closes}
 use Rattle.rust_tokens.specs.Front.{spacing_of}
@@ -76,6 +77,11 @@ pub comma_line : IsStopping (codes ",\n") (sign 44 Alone ∷ [])
 unfolding lib.Utf8.encode unicode_ident
 comma_line = record { before = record { codes = codes ",\n"; bytes = refl; scalar_values = refl; reads = λ t. (sign 44 Alone ∷ [], (1, refl, refl), refl) }; stops = λ t. comma_stops }
 
+-- whatever its spacing
+pub any_comma_line : (j : Spacing) → IsStopping (codes ",\n") (sign 44 j ∷ [])
+unfolding lib.Utf8.encode unicode_ident
+any_comma_line j = record { before = record { codes = codes ",\n"; bytes = refl; scalar_values = refl; reads = λ t. (sign 44 Alone ∷ [], (1, refl, refl), refl) }; stops = λ t. comma_stops }
+
 pub comma : IsStopping (codes ", ") (sign 44 Alone ∷ [])
 unfolding lib.Utf8.encode unicode_ident
 comma = record { before = record { codes = codes ", "; bytes = refl; scalar_values = refl; reads = λ t. (sign 44 Alone ∷ [], (1, refl, refl), refl) }; stops = λ t. comma_stops }
@@ -83,6 +89,10 @@ comma = record { before = record { codes = codes ", "; bytes = refl; scalar_valu
 pub colon : IsStopping (codes ": ") (sign 58 Alone ∷ [])
 unfolding lib.Utf8.encode unicode_ident
 colon = record { before = record { codes = codes ": "; bytes = refl; scalar_values = refl; reads = λ t. (sign 58 Alone ∷ [], (1, refl, refl), refl) }; stops = λ t. colon_stops }
+
+pub colon_line : IsStopping (codes ":\n") (sign 58 Alone ∷ [])
+unfolding lib.Utf8.encode unicode_ident
+colon_line = record { before = record { codes = codes ":\n"; bytes = refl; scalar_values = refl; reads = λ t. (sign 58 Alone ∷ [], (1, refl, refl), refl) }; stops = λ t. colon_stops }
 
 pub semicolon : IsStopping (codes ";") (sign 59 Alone ∷ [])
 unfolding lib.Utf8.encode unicode_ident
@@ -113,3 +123,17 @@ closing = record { before = record { codes = codes ")"; bytes = refl; scalar_val
 pub no_places : IsStopping (codes "()") (opens Parenthesis ∷ closes Parenthesis ∷ [])
 unfolding lib.Utf8.encode unicode_ident
 no_places = record { before = record { codes = codes "()"; bytes = refl; scalar_values = refl; reads = λ t. (opens Parenthesis ∷ closes Parenthesis ∷ [], (1, refl, (1, refl, refl)), refl) }; stops = λ t. opening_stops }
+
+-- ---- attributes
+
+pub attribute_opening : IsBefore (codes "#[") (sign 35 Alone ∷ opens Bracket ∷ [])
+unfolding lib.Utf8.encode unicode_ident
+attribute_opening = record { codes = codes "#["; bytes = refl; scalar_values = refl; reads = λ t. (sign 35 Alone ∷ opens Bracket ∷ [], (1, refl, (1, refl, refl)), refl) }
+
+pub arguments_opening : IsStopping (codes "(\n") (opens Parenthesis ∷ [])
+unfolding lib.Utf8.encode unicode_ident
+arguments_opening = record { before = record { codes = codes "(\n"; bytes = refl; scalar_values = refl; reads = λ t. (opens Parenthesis ∷ [], (1, refl, refl), refl) }; stops = λ t. opening_stops }
+
+pub attribute_closing : IsBefore (codes ")]\n") (closes Parenthesis ∷ closes Bracket ∷ [])
+unfolding lib.Utf8.encode unicode_ident
+attribute_closing = record { codes = codes ")]\n"; bytes = refl; scalar_values = refl; reads = λ t. (closes Parenthesis ∷ closes Bracket ∷ [], (1, refl, (1, refl, refl)), refl) }

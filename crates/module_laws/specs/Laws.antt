@@ -5,7 +5,7 @@ use Rattle.token_trees.specs.Text.{pieces_of}
 use Rattle.syntax_trees.specs.Item.{ItemD}
 use Rattle.rust_syntax.specs.PrintItem.{print_item}
 use Rattle.tidy_texts.specs.Comment.{doc_comment}
-use Rattle.module_texts.specs.Fields.{attribute_lines}
+use Rattle.module_texts.specs.Attributes.{attribute_lines}
 use Rattle.module_texts.specs.Items.{keyword, body_text, derive_line, long_line, hash_where, holds, is_long, item_text}
 use Rattle.tidy_laws.specs.Laws.{HasTokens, IsToken}
 use Rattle.module_laws.specs.Shown.{shown_item}

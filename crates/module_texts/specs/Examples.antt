@@ -5,6 +5,9 @@ use Rattle.token_trees.specs.Token.{Tok, Name, fixed, text, site}
 use Rattle.syntax_trees.specs.Syntax.{TyD, ty_path, path, ArgumentsD, segment, no_arguments, angle, arg_ty, no_qself, Segments, end_segments, more_segments, end_generics, more_generics}
 use Rattle.syntax_trees.specs.Item.{MetaD, meta_list, FieldD, named_fields, unnamed_fields, unit_fields, BodyD, struct_body, enum_body, ItemD}
 use Rattle.syntax_printing.specs.Print.{sign, keyword}
+use Rattle.module_texts.specs.Attributes.{attribute_lines}
+use Rattle.module_texts.specs.Fields.{field_line}
+use Rattle.module_texts.specs.Calls.{call_line}
 use Rattle.module_texts.specs.Rules.{text_lines, listed_line}
 use Rattle.module_texts.specs.Defaults.{default_text}
 use Rattle.module_texts.specs.Items.{item_text, items_text}
@@ -79,5 +82,19 @@ pub record Modules : Type 0 where
       ≡ codes "\n#[derive(Clone, Debug, PartialEq, ::serde::Serialize, ::serde::Deserialize)]\npub struct A {}\n\n/// Title\n///\n/// b\n#[derive(Clone, Debug, PartialEq, ::serde::Serialize, ::serde::Deserialize)]\npub struct B {}\n"
   pub bounds : text_lines (Some 1) None (codes "^a.$" ∷ []) [] ≡ codes "        typify_present::at_least(&value, 1)?;\n        typify_present::has(&value, \"^a[^\\\\n\\\\r\\\\x{2028}\\\\x{2029}]$\")?;\n"
   pub one_pattern : text_lines None None [] (codes "a" ∷ codes "b" ∷ []) ≡ codes "        typify_present::has_one(&value, &[\"a\", \"b\"])?;\n"
+  pub denied : text_lines None None (codes "^(?!a)b(?<=c)$" ∷ []) [] ≡ codes "        typify_present::has(&value, \"^b$\")?;\n        typify_present::lacks(&value, \"^(?:a)\")?;\n        typify_present::has(&value, \"(?:c)$\")?;\n"
+  pub one_where : text_lines None None [] (codes "a" ∷ codes "^(?!b)c(?<=c)$" ∷ []) ≡ codes "        typify_present::has_one_where(&value, &[&[(\"a\", true)], &[(\"^c$\", true), (\"^(?:b)\", false), (\"(?:c)$\", true)]])?;\n"
   pub listed : listed_line (codes "listed") (number (unsigned 1) ∷ number (unsigned 20) ∷ []) ≡ codes "        typify_present::listed(&value, \"[1,20]\")?;\n"
   pub stated : default_text 3 (boolean true) ≡ codes "\n    pub fn d3<T: DeserializeOwned>() -> T {\n        serde_json::from_str(\"true\").unwrap()\n    }\n"
+  -- 70 characters of arguments, and 71; a line of 99 with one argument, and of 100; a field of 100, and of 101
+  pub arguments_fit : attribute_lines (codes "    ") (serde (keyword (codes "default") ∷ sign 44 ∷ says (codes "rename") (codes "xxxxxxxxxxxxxxxxxxxxxxxxxxxxxxxxxxxxxxxxxxxxxxxxxx"))) ≡ codes "    #[serde(default, rename = \"xxxxxxxxxxxxxxxxxxxxxxxxxxxxxxxxxxxxxxxxxxxxxxxxxx\")]\n"
+  pub arguments_broken : attribute_lines (codes "    ") (serde (keyword (codes "default") ∷ sign 44 ∷ says (codes "rename") (codes "xxxxxxxxxxxxxxxxxxxxxxxxxxxxxxxxxxxxxxxxxxxxxxxxxxx"))) ≡ codes "    #[serde(\n        default,\n        rename = \"xxxxxxxxxxxxxxxxxxxxxxxxxxxxxxxxxxxxxxxxxxxxxxxxxxx\"\n    )]\n"
+  pub argument_fits : attribute_lines (codes "    ") (serde (says (codes "rename") (codes "xxxxxxxxxxxxxxxxxxxxxxxxxxxxxxxxxxxxxxxxxxxxxxxxxxxxxxxxxxxxxxxxxxxxxxxxxx"))) ≡ codes "    #[serde(rename = \"xxxxxxxxxxxxxxxxxxxxxxxxxxxxxxxxxxxxxxxxxxxxxxxxxxxxxxxxxxxxxxxxxxxxxxxxxx\")]\n"
+  pub argument_broken : attribute_lines (codes "    ") (serde (says (codes "rename") (codes "xxxxxxxxxxxxxxxxxxxxxxxxxxxxxxxxxxxxxxxxxxxxxxxxxxxxxxxxxxxxxxxxxxxxxxxxxxx"))) ≡ codes "    #[serde(\n        rename = \"xxxxxxxxxxxxxxxxxxxxxxxxxxxxxxxxxxxxxxxxxxxxxxxxxxxxxxxxxxxxxxxxxxxxxxxxxxx\"\n    )]\n"
+  pub field_fits : field_line (codes "    ") (codes "pub ") (field [] (codes "a") (plain (codes "TTTTTTTTTTTTTTTTTTTTTTTTTTTTTTTTTTTTTTTTTTTTTTTTTTTTTTTTTTTTTTTTTTTTTTTTTTTTTTTTTTTTTTTT"))) ≡ codes "    pub a: TTTTTTTTTTTTTTTTTTTTTTTTTTTTTTTTTTTTTTTTTTTTTTTTTTTTTTTTTTTTTTTTTTTTTTTTTTTTTTTTTTTTTTTT,\n"
+  pub field_broken : field_line (codes "    ") (codes "pub ") (field [] (codes "a") (plain (codes "TTTTTTTTTTTTTTTTTTTTTTTTTTTTTTTTTTTTTTTTTTTTTTTTTTTTTTTTTTTTTTTTTTTTTTTTTTTTTTTTTTTTTTTTT"))) ≡ codes "    pub a:\n        TTTTTTTTTTTTTTTTTTTTTTTTTTTTTTTTTTTTTTTTTTTTTTTTTTTTTTTTTTTTTTTTTTTTTTTTTTTTTTTTTTTTTTTTT,\n"
+  -- arguments of 60 characters, and of 61; a literal whose line would have 100, and 101
+  pub call_fits : call_line (codes "has") (codes "\"xxxxxxxxxxxxxxxxxxxxxxxxxxxxxxxxxxxxxxxxxxxxxxxxxx\"") ≡ codes "        typify_present::has(&value, \"xxxxxxxxxxxxxxxxxxxxxxxxxxxxxxxxxxxxxxxxxxxxxxxxxx\")?;\n"
+  pub call_broken : call_line (codes "has") (codes "\"xxxxxxxxxxxxxxxxxxxxxxxxxxxxxxxxxxxxxxxxxxxxxxxxxxx\"") ≡ codes "        typify_present::has(\n            &value,\n            \"xxxxxxxxxxxxxxxxxxxxxxxxxxxxxxxxxxxxxxxxxxxxxxxxxxx\",\n        )?;\n"
+  pub call_wide : call_line (codes "has") (codes "\"xxxxxxxxxxxxxxxxxxxxxxxxxxxxxxxxxxxxxxxxxxxxxxxxxxxxxxxxxxxxxxxxxxxxxxxxxxxxxxxxxxxxx\"") ≡ codes "        typify_present::has(\n            &value,\n            \"xxxxxxxxxxxxxxxxxxxxxxxxxxxxxxxxxxxxxxxxxxxxxxxxxxxxxxxxxxxxxxxxxxxxxxxxxxxxxxxxxxxxx\",\n        )?;\n"
+  pub call_kept : call_line (codes "has") (codes "\"xxxxxxxxxxxxxxxxxxxxxxxxxxxxxxxxxxxxxxxxxxxxxxxxxxxxxxxxxxxxxxxxxxxxxxxxxxxxxxxxxxxxxx\"") ≡ codes "        typify_present::has(&value, \"xxxxxxxxxxxxxxxxxxxxxxxxxxxxxxxxxxxxxxxxxxxxxxxxxxxxxxxxxxxxxxxxxxxxxxxxxxxxxxxxxxxxxx\")?;\n"

@@ -1,24 +1,36 @@
--- Attributes, fields and variants, line by line. Each line is indented by the given spaces.
-use Rattle.std.specs.Prelude.{ℕ, List, [], ◌∷◌, ◌++◌, Option, Some, None, codes}
+-- Fields and variants, line by line. Each line is indented by the given spaces.
+use Rattle.std.specs.Prelude.{ℕ, List, [], ◌∷◌, ◌++◌, length, Bool, nat_lt, chars, Option, Some, None, codes, if◌then◌else◌}
 use Rattle.token_trees.specs.Token.{Name}
 use Rattle.syntax_trees.specs.Item.{MetaD, FieldD, FieldsD, named_fields, unnamed_fields, unit_fields, VariantD}
 use Rattle.module_texts.specs.Tokens.{attribute_text, type_text}
-
-abbrev pub attribute_line : List ℕ → MetaD → List ℕ
-attribute_line indent m = indent ++ (attribute_text m ++ codes "\n")
-
-abbrev pub attribute_lines : List ℕ → List MetaD → List ℕ
-attribute_lines indent [] = []
-attribute_lines indent (m ∷ ms) = attribute_line indent m ++ attribute_lines indent ms
+use Rattle.module_texts.specs.Attributes.{attribute_lines}
 
 abbrev pub label : Option Name → List ℕ
 label None = []
 label (Some n) = n.text ++ codes ": "
 
+-- with the type on the next line
+abbrev pub broken_label : List ℕ → Option Name → List ℕ
+broken_label indent None = []
+broken_label indent (Some n) = n.text ++ (codes ":\n" ++ (indent ++ codes "    "))
+
 -- ---- fields with names: `visibility` is `pub ` or nothing
 
+abbrev pub plain_field : List ℕ → List ℕ → FieldD → List ℕ
+plain_field indent visibility f = indent ++ (visibility ++ (label f.name ++ (type_text f.ty ++ codes ",\n")))
+
+abbrev pub broken_field : List ℕ → List ℕ → FieldD → List ℕ
+broken_field indent visibility f = indent ++ (visibility ++ (broken_label indent f.name ++ (type_text f.ty ++ codes ",\n")))
+
+-- more than 100 characters, and the end of the line
+abbrev pub is_wide_field : List ℕ → List ℕ → FieldD → Bool
+is_wide_field indent visibility f = nat_lt 101 (length (chars (plain_field indent visibility f)))
+
+abbrev pub declared_field : List ℕ → List ℕ → FieldD → List ℕ
+declared_field indent visibility f = if is_wide_field indent visibility f then broken_field indent visibility f else plain_field indent visibility f
+
 abbrev pub field_line : List ℕ → List ℕ → FieldD → List ℕ
-field_line indent visibility f = attribute_lines indent f.attrs ++ (indent ++ (visibility ++ (label f.name ++ (type_text f.ty ++ codes ",\n"))))
+field_line indent visibility f = attribute_lines indent f.attrs ++ declared_field indent visibility f
 
 abbrev pub field_lines : List ℕ → List ℕ → List FieldD → List ℕ
 field_lines indent visibility [] = []

@@ -5,7 +5,8 @@ use Rattle.conversion_table.specs.declared.conversions.Constraint.{Constraint}
 use Rattle.tidy_texts.specs.Comment.{doc_comment}
 use Rattle.module_texts.specs.declared.asked.Asked.TheVariants.{Holder, Length}
 use Rattle.module_texts.specs.Asked.{body_has}
-use Rattle.module_texts.specs.Fields.{attribute_lines, braced_text, places_text, variants_text}
+use Rattle.module_texts.specs.Attributes.{attribute_lines}
+use Rattle.module_texts.specs.Fields.{braced_text, places_text, variants_text}
 use Rattle.module_texts.specs.Impls.{impl_of, left_behind}
 use Rattle.module_texts.specs.Docs.{Doc, own_doc, docs_behind}
 

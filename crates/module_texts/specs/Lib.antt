@@ -1,7 +1,9 @@
 pub mod Tokens
 pub mod Asked
+pub mod Attributes
 pub mod Fields
 pub mod Values
+pub mod Calls
 pub mod Rules
 pub mod Impls
 pub mod Docs

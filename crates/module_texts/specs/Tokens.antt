@@ -1,12 +1,15 @@
 -- Types, attributes and string literals as text.
 use Rattle.std.specs.Prelude.{ℕ, List, [], ◌∷◌}
-use Rattle.token_trees.specs.Token.{site}
+use Rattle.token_trees.specs.Token.{Tok, site}
 use Rattle.token_trees.specs.Text.{text_of}
 use Rattle.syntax_trees.specs.Syntax.{TyD}
 use Rattle.syntax_trees.specs.Item.{MetaD}
 use Rattle.syntax_printing.specs.Print.{print_ty, print_lit_str}
 use Rattle.rust_syntax.specs.PrintItem.{print_attribute}
 use Rattle.tidy_texts.specs.Tidy.{tidy}
+
+abbrev pub tokens_text : List Tok → List ℕ
+tokens_text ts = tidy (text_of ts)
 
 abbrev pub type_text : TyD → List ℕ
 type_text t = tidy (text_of (print_ty t))

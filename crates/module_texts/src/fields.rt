@@ -1,44 +1,14 @@
-//! Attributes, fields and variants, line by line.
+//! Fields and variants, line by line.
 ghost use Rattle.std.specs.Prelude.{◌≡◌, ◌++◌, OnOk, map, option_map, string_bytes};
 ghost use Rattle.token_trees.specs.View.{name_view};
 ghost use Rattle.syntax_trees.specs.Item.{attribute_view, field_view, fields_view, variant_view};
-ghost use Rattle.module_texts.specs.Fields.{attribute_line, attribute_lines, attributes_inline, braced_text, field_line, field_lines, label, more_places, place_text, places_text, variant_fields, variant_line, variant_lines, variants_text};
+ghost use Rattle.module_texts.specs.Fields.{attributes_inline, braced_text, broken_field, broken_label, declared_field, field_line, field_lines, label, more_places, place_text, places_text, plain_field, variant_fields, variant_line, variant_lines, variants_text};
 
-use crate::tokens::{push_attribute, push_type};
+use crate::attributes::push_attributes;
+use crate::tokens::{push_attribute, push_type, width};
 use std::alloc::{AllocError, Global};
 use syntax_trees::{Attribute, Field, Fields, Variant};
 use token_trees::Ident;
-
-#[tactic(auto, using(crate::proofs::Parts::assoc))]
-fn push_attribute_line(
-    out: &mut String,
-    alloc: Global,
-    indent: &str,
-    attribute: &Attribute,
-) -> Result<(), AllocError>
-    ensures { OnOk result (string_bytes out.new ≡ string_bytes out.old ++ attribute_line indent.now (attribute_view attribute.now)) }
-{
-    out.push_str(indent)?;
-    push_attribute(out, alloc, attribute)?;
-    out.push_str("\n")?;
-    Ok(())
-}
-
-/// Appends a line for each attribute.
-#[tactic(auto, using(crate::proofs::Parts::assoc))]
-pub(crate) fn push_attributes(
-    out: &mut String,
-    alloc: Global,
-    indent: &str,
-    attributes: &[Attribute],
-) -> Result<(), AllocError>
-    ensures { OnOk result (string_bytes out.new ≡ string_bytes out.old ++ attribute_lines indent.now (map attribute_view attributes.now)) }
-{
-    for attribute in attributes {
-        push_attribute_line(out, alloc, indent, attribute)?;
-    }
-    Ok(())
-}
 
 // A field's name, and what stands before its type.
 #[tactic(auto, using(crate::proofs::Parts::assoc))]
@@ -55,6 +25,77 @@ fn push_label(out: &mut String, name: &Option<Ident>) -> Result<(), AllocError>
     }
 }
 
+// A field's name, with the type on the next line.
+#[tactic(auto, using(crate::proofs::Parts::assoc))]
+fn push_broken_label(out: &mut String, indent: &str, name: &Option<Ident>) -> Result<(), AllocError>
+    ensures { OnOk result (string_bytes out.new ≡ string_bytes out.old ++ broken_label indent.now (option_map name_view name.now)) }
+{
+    match name {
+        Some(name) => {
+            out.push_str(&name.text)?;
+            out.push_str(":\n")?;
+            out.push_str(indent)?;
+            out.push_str("    ")?;
+            Ok(())
+        }
+        None => Ok(()),
+    }
+}
+
+#[tactic(auto, using(crate::proofs::Parts::assoc))]
+fn push_plain_field(
+    out: &mut String,
+    alloc: Global,
+    indent: &str,
+    visibility: &str,
+    field: &Field,
+) -> Result<(), AllocError>
+    ensures { OnOk result (string_bytes out.new ≡ string_bytes out.old ++ plain_field indent.now visibility.now (field_view field.now)) }
+{
+    out.push_str(indent)?;
+    out.push_str(visibility)?;
+    push_label(out, &field.ident)?;
+    push_type(out, alloc, &field.ty)?;
+    out.push_str(",\n")?;
+    Ok(())
+}
+
+#[tactic(auto, using(crate::proofs::Parts::assoc))]
+fn push_broken_field(
+    out: &mut String,
+    alloc: Global,
+    indent: &str,
+    visibility: &str,
+    field: &Field,
+) -> Result<(), AllocError>
+    ensures { OnOk result (string_bytes out.new ≡ string_bytes out.old ++ broken_field indent.now visibility.now (field_view field.now)) }
+{
+    out.push_str(indent)?;
+    out.push_str(visibility)?;
+    push_broken_label(out, indent, &field.ident)?;
+    push_type(out, alloc, &field.ty)?;
+    out.push_str(",\n")?;
+    Ok(())
+}
+
+// A field without its attributes.
+fn push_declared(
+    out: &mut String,
+    alloc: Global,
+    indent: &str,
+    visibility: &str,
+    field: &Field,
+) -> Result<(), AllocError>
+    ensures { OnOk result (string_bytes out.new ≡ string_bytes out.old ++ declared_field indent.now visibility.now (field_view field.now)) }
+{
+    let mut line = String::new(alloc);
+    push_plain_field(&mut line, alloc, indent, visibility, field)?;
+    if width(&line) > 101 {
+        return push_broken_field(out, alloc, indent, visibility, field);
+    }
+    push_plain_field(out, alloc, indent, visibility, field)
+}
+
 #[tactic(auto, using(crate::proofs::Parts::assoc))]
 fn push_field(
     out: &mut String,
@@ -66,11 +107,7 @@ fn push_field(
     ensures { OnOk result (string_bytes out.new ≡ string_bytes out.old ++ field_line indent.now visibility.now (field_view field.now)) }
 {
     push_attributes(out, alloc, indent, &field.attrs)?;
-    out.push_str(indent)?;
-    out.push_str(visibility)?;
-    push_label(out, &field.ident)?;
-    push_type(out, alloc, &field.ty)?;
-    out.push_str(",\n")?;
+    push_declared(out, alloc, indent, visibility, field)?;
     Ok(())
 }
 

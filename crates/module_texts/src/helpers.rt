@@ -75,6 +75,13 @@ const PATTERNS: &str = "
         Err(format!(\"nothing in it is {pattern}\"))
     }
 
+    pub fn lacks(text: &str, pattern: &'static str) -> Result<(), String> {
+        if is_found(text, pattern)? {
+            return Err(format!(\"something in it is {pattern}\"));
+        }
+        Ok(())
+    }
+
     pub fn has_one(text: &str, patterns: &[&'static str]) -> Result<(), String> {
         for pattern in patterns {
             if is_found(text, pattern)? {
@@ -82,6 +89,25 @@ const PATTERNS: &str = "
             }
         }
         Err(format!(\"nothing in it is one of {patterns:?}\"))
+    }
+
+    // Of each pattern what is searched for, and whether it is to be found.
+    pub fn has_one_where(text: &str, patterns: &[&[(&'static str, bool)]]) -> Result<(), String> {
+        for pattern in patterns {
+            if are_met(text, pattern)? {
+                return Ok(());
+            }
+        }
+        Err(format!(\"nothing in it is one of {patterns:?}\"))
+    }
+
+    fn are_met(text: &str, searches: &[(&'static str, bool)]) -> Result<bool, String> {
+        for (pattern, wanted) in searches {
+            if is_found(text, pattern)? != *wanted {
+                return Ok(false);
+            }
+        }
+        Ok(true)
     }
 
     fn is_found(text: &str, pattern: &'static str) -> Result<bool, String> {

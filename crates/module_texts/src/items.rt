@@ -5,8 +5,9 @@ ghost use Rattle.module_texts.specs.Docs.{doc_view, own_doc as own_doc_of};
 ghost use Rattle.module_texts.specs.Items.{body_text, derive_line, hash_text, hash_where, head_text, item_text, items_text, keyword, parts_text, struct_text};
 
 use crate::asked::{Asked, body_has};
+use crate::attributes::push_attributes;
 use crate::docs::{ItemDoc, docs_behind, own_doc};
-use crate::fields::{push_attributes, push_braced, push_places, push_variants};
+use crate::fields::{push_braced, push_places, push_variants};
 use crate::impls::{left_behind, push_impl_of};
 use conversion_table::Constraint;
 use std::alloc::{AllocError, Global};

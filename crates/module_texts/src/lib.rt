@@ -3,6 +3,8 @@
 #![tactic(auto)]
 
 mod asked;
+mod attributes;
+mod calls;
 mod defaults;
 mod docs;
 pub mod examples;

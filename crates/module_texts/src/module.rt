@@ -46,10 +46,11 @@ fn push_parts(
     Ok(())
 }
 
-/// Appends the text of a Rust module that has the items: a comment with the root's type, the helpers that attributes name, a function for each stated default, and
-/// each item with `pub`, derives, and the conversion that its rule asks, and with its text among `docs`, which stand in the order of the items, as a doc comment. It compiles with serde, serde_json and, where types or rules name them, uuid, chrono and
-/// regex, but where std or serde have no trait for a type, which a comment says. Lines are broken and indented as rustfmt does, but for lines longer than 100
-/// characters and short variants. Items have no parameters. It fails where memory runs out, and at an array whose length is greater than a u64.
+/// Appends the text of a Rust module that has the items: a comment with the root's type, the helpers that attributes name, a function for each stated default,
+/// and each item with `pub`, derives, and the conversion that its rule asks, and with its text among `docs`, which stand in the order of the items, as a doc
+/// comment. It compiles with serde, serde_json and, where types or rules name them, uuid, chrono and regex, but where std or serde have no trait for a type,
+/// which a comment says. Lines are broken and indented as rustfmt does, but for calls with lists, defaults, newtypes, impls and types by themselves that are
+/// longer than a line, and for short variants. Items have no parameters. It fails where memory runs out, and at an array whose length is greater than a u64.
 pub fn push_module(
     out: &mut String,
     alloc: Global,

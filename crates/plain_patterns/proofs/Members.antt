@@ -22,7 +22,7 @@ unfolding members
 no_text mode zero = refl
 no_text mode (suc n) = refl
 
-regroup : (out bytes : List ℕ) (o : Option (List ℕ × Text)) → after_head out (option_map (λ q. (bytes ++ q.0, q.1)) o) ≡ after_head (out ++ bytes) o
+pub regroup : (out bytes : List ℕ) (o : Option (List ℕ × Text)) → after_head out (option_map (λ q. (bytes ++ q.0, q.1)) o) ≡ after_head (out ++ bytes) o
 regroup out bytes None = refl
 regroup out bytes (Some q) = ap (λ w. Some (w, q.1)) (sym (append_assoc out bytes q.0))
 

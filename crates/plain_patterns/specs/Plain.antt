@@ -1,23 +1,25 @@
 -- Plain patterns, a part of the patterns of ECMA-262 (22.2.1, and B.1.2 for what stands for itself outside of unicode mode):
 -- alternatives, terms, groups with a capture and `(?:`, `^`, `$`, `\b`, `\B`, quantifiers with and without a `?` behind, `.`,
 -- escapes of characters and of sets, and classes. A pattern is read outside of unicode mode, or else in it, where `\u{..}` and
--- `\p` have their meaning. Lookaround, references, names of groups and flags are no part of them, and neither is what would
--- only mean a letter (`\A`), an octal number or half of a surrogate pair. Each is rewritten for `regex`, which reads some of
--- these otherwise. A pattern and a text are read as characters, also where the standard reads code units, and what is
--- written is bytes. In the definitions `u` says that unicode mode is on.
-use Rattle.std.specs.Prelude.{ℕ, zero, suc, ◌+◌, ◌*◌, ◌-◌, ◌%◌, ◌==◌, ◌&&◌, ◌||◌, not, nat_le, nat_lt, min, Bool, true, false, List, [], ◌∷◌, ◌++◌, length, drop, take, chars, codes, encode_utf8, Option, Some, None, is_some, unwrap_or, option_map, option_and_then, if◌then◌else◌}
+-- `\p` have their meaning. Lookaround stands at the two ends of a pattern alone (Ends). References, names of groups and flags
+-- are no part of them, and neither is what would only mean a letter (`\A`), an octal number or half of a surrogate pair. Each
+-- is rewritten for `regex`, which reads some of these otherwise. A pattern and a text are read as characters, also where the
+-- standard reads code units, and what is written is bytes. In the definitions `u` says that unicode mode is on.
+use Rattle.std.specs.Prelude.{ℕ, zero, suc, ◌+◌, ◌*◌, ◌-◌, ◌%◌, ◌==◌, ◌&&◌, ◌||◌, not, nat_le, min, Bool, true, false, List, [], ◌∷◌, ◌++◌, length, drop, take, codes, encode_utf8, Option, Some, None, option_map, option_and_then, if◌then◌else◌}
 use Rattle.std.specs.List.{list_any, flat_map, position_or_len}
 use Rattle.std.specs.Option.{option_or}
 use Rattle.std.specs.Char.{digit_value, is_digit, is_ascii_alphabetic, is_ascii_alphanumeric, is_ascii_digit, is_ascii_punctuation}
 use Rattle.plain_patterns.specs.declared.atom.Set.{Set}
-use Rattle.plain_patterns.specs.declared.atom.Set.TheVariants.{Dot, Digit, NoDigit, Space, NoSpace, Word, NoWord, Category, Subcategory}
+use Rattle.plain_patterns.specs.declared.atom.Set.TheVariants.{Dot, Digit, NoDigit, Space, NoSpace, Word, NoWord, Property}
 use Rattle.plain_patterns.specs.declared.atom.Atom.{Atom}
 use Rattle.plain_patterns.specs.declared.atom.Atom.TheVariants.{Character, Named}
 use Rattle.plain_patterns.specs.declared.atom.Member.{Member}
 use Rattle.plain_patterns.specs.declared.atom.Member.TheVariants.{Single, Range, Beside}
+use Rattle.plain_patterns.specs.declared.table.Property.TheVariants.{GeneralCategory, Binary}
+use Rattle.plain_patterns.specs.declared.table.Name.{Name}
+use Rattle.plain_patterns.specs.Properties.{property_named, property_sign, spelled, value_named}
 use Rattle.plain_patterns.specs.declared.state.Kind.{Kind}
 use Rattle.plain_patterns.specs.declared.state.Kind.TheVariants.{Opening, Closing, Bar, Assertion, Item, Repetition}
-use Rattle.plain_patterns.specs.declared.state.State.{State}
 use lib.Utf8.{scalar}
 
 abbrev pub Text : Type 0
@@ -44,9 +46,12 @@ verbatim c = if is_ascii_punctuation c && not (c == 60 || c == 62) then 92 ∷ e
 
 -- `.` is any character that ends no line (LineTerminator, 12.3). `\d` is a decimal digit, `\w` a letter or digit of ASCII or
 -- `_`, and `\s` what is white space (WhiteSpace, 12.2) or ends a line; `\D`, `\W` and `\S` are all others (22.2.2.9).
--- `\p` and `\P` have a general category of Unicode, or all else.
-abbrev pub property_sign : Bool → List ℕ
-property_sign negated = if negated then codes "\\P{gc=" else codes "\\p{gc="
+-- `\p` has what Unicode gives the property that it names, and `\P` all else.
+abbrev pub negation_sign : Bool → List ℕ
+negation_sign negated = if negated then codes "\\P{" else codes "\\p{"
+
+abbrev pub property_bytes : Bool → Name → List ℕ
+property_bytes negated n = negation_sign negated ++ property_sign n.property ++ spelled n ++ 125 ∷ []
 
 abbrev pub set_bytes : Set → List ℕ
 set_bytes Dot = codes "[^\\n\\r\\x{2028}\\x{2029}]"
@@ -56,8 +61,7 @@ set_bytes Space = codes "[\\t-\\r \\x{A0}\\x{1680}\\x{2000}-\\x{200A}\\x{2028}\\
 set_bytes NoSpace = codes "[^\\t-\\r \\x{A0}\\x{1680}\\x{2000}-\\x{200A}\\x{2028}\\x{2029}\\x{202F}\\x{205F}\\x{3000}\\x{FEFF}]"
 set_bytes Word = codes "[0-9A-Za-z_]"
 set_bytes NoWord = codes "[^0-9A-Za-z_]"
-set_bytes (Category negated a) = property_sign negated ++ encode_utf8 a ++ 125 ∷ []
-set_bytes (Subcategory negated a b) = property_sign negated ++ encode_utf8 a ++ encode_utf8 b ++ 125 ∷ []
+set_bytes (Property negated n) = property_bytes negated n
 
 abbrev pub atom_bytes : Atom → List ℕ
 atom_bytes (Character c) = verbatim c
@@ -153,31 +157,27 @@ braced_code t = if is_at 125 t then None else braced_after 0 t
 abbrev pub code_point : Bool → Text → Option (ℕ × Text)
 code_point u t = if u && is_at 123 t then braced_code (drop 1 t) else plain_code t
 
--- The second letters of general categories, by their first (UAX 44, table 12); of surrogates there is no text.
-abbrev pub seconds : ℕ → Text
-seconds a =
-    if a == 76 then codes "ultmoC"
-    else if a == 77 then codes "nce"
-    else if a == 78 then codes "dlo"
-    else if a == 80 then codes "cdseifo"
-    else if a == 83 then codes "mcko"
-    else if a == 90 then codes "slp"
-    else if a == 67 then codes "cfno"
-    else []
+-- how many characters stand before the first of this kind, or all
+abbrev pub len_before : ℕ → Text → ℕ
+len_before c t = position_or_len (λ d. d == c) t
 
--- after `\p{` and the first letter of a category
-abbrev pub category_after : Bool → ℕ → Text → Option Read
-category_after negated a [] = None
-category_after negated a (b ∷ t) =
-    if b == 125 then Some (Named (Category negated a), t)
-    else if is_one_of (seconds a) b && is_at 125 t then Some (Named (Subcategory negated a b), drop 1 t)
-    else None
+-- UnicodePropertyValueExpression (22.2.1): a property and one of its values, or else a general category or a property without values
+abbrev pub named : Text → Option Name
+named t =
+    if is_at 61 (drop (len_before 61 t) t) then property_named (take (len_before 61 t) t) >>= (λ p. value_named p (drop (len_before 61 t + 1) t))
+    else option_or (value_named GeneralCategory t) (value_named Binary t)
 
--- after `\p` or `\P`: a general category by its short name, in braces
-abbrev pub property : Bool → Text → Option Read
-property negated [] = None
-property negated (c ∷ []) = None
-property negated (c ∷ a ∷ t) = if c == 123 && is_one_of (codes "LMNPSZC") a then category_after negated a t else None
+abbrev pub property_before : Bool → Option Name → Text → Option Read
+property_before negated found t = option_map {U = Read} (λ n. (Named (Property negated n), t)) found
+
+-- after `\p{` or `\P{`: a name up to the brace that closes it
+abbrev pub property_braced : Bool → Text → Option Read
+property_braced negated t =
+    if is_at 125 (drop (len_before 125 t) t) then property_before negated (named (take (len_before 125 t) t)) (drop (len_before 125 t + 1) t) else None
+
+-- after `\p` or `\P`
+unfoldable pub property : Bool → Text → Option Read
+property negated t = if is_at 123 t then property_braced negated (drop 1 t) else None
 
 abbrev pub longer_escape : Bool → ℕ → Text → Option Read
 longer_escape u c t =
@@ -371,79 +371,3 @@ piece u c t = piece_by u (sign c) c t
 -- the same, written behind what was written before
 abbrev pub behind : List ℕ → Option Found → Option Found
 behind out found = option_map {U = Found} (λ p. (p.0, out ++ p.1, p.2)) found
-
-abbrev pub Piece : Type 0
-Piece = Kind × List ℕ
-
--- the pieces of a text; the number bounds how many there are
-unfoldable pub pieces : Bool → ℕ → Text → Option (List Piece)
-pieces u n [] = Some []
-pieces u zero (c ∷ t) = None
-pieces u (suc n) (c ∷ t) = piece u c t >>= λ p. option_map (λ ps. (p.0, p.1) ∷ ps) (pieces u n p.2)
-
--- ---- the order of pieces
-
--- How many groups are open, and whether what stands before may be repeated: an item may, and a group that was closed, once.
-abbrev pub start : State
-start = record { depth = 0; repeatable = false }
-
-abbrev pub state_after : State → Kind → Option State
-state_after s Opening = Some (record { depth = s.depth + 1; repeatable = false })
-state_after s Closing = if s.depth == 0 then None else Some (record { depth = s.depth - 1; repeatable = true })
-state_after s Bar = Some (record { depth = s.depth; repeatable = false })
-state_after s Assertion = Some (record { depth = s.depth; repeatable = false })
-state_after s Item = Some (record { depth = s.depth; repeatable = true })
-state_after s Repetition = if s.repeatable then Some (record { depth = s.depth; repeatable = false }) else None
-
--- what the pieces write, where they stand in order and leave no group open
-abbrev pub in_order : List Piece → State → Option (List ℕ)
-in_order [] s = if s.depth == 0 then Some [] else None
-in_order (p ∷ ps) s = state_after s p.0 >>= λ after. option_map (λ w. p.1 ++ w) (in_order ps after)
-
--- what the pieces of a text write, from a state on
-abbrev pub read_from : Bool → ℕ → Text → State → Option (List ℕ)
-read_from u n t s = pieces u n t >>= λ ps. in_order ps s
-
--- ---- the whole
-
-abbrev pub read_in : Bool → Text → Option (List ℕ)
-read_in u t = read_from u (length t) t start
-
--- A plain pattern's text as `regex` is to read it; nothing for another. What is read outside of unicode mode and in it means
--- the same in both.
-unfoldable pub rewritten : List ℕ → Option (List ℕ)
-rewritten pattern = option_or (read_in false (chars pattern)) (read_in true (chars pattern))
-
-abbrev pub is_plain : List ℕ → Bool
-is_plain pattern = is_some (rewritten pattern)
-
--- ---- where reading stops
-
--- behind a piece: what follows, and the state there, where the piece may stand
-abbrev pub stepped : Option Found → State → Option (Text × State)
-stepped found s = found >>= λ p. option_map (λ next. (p.2, next)) (state_after s p.0)
-
--- what is left of a text from the first piece on that can't stand where it does; the number bounds how many pieces there are
-unfoldable pub unread : Bool → ℕ → Text → State → Text
-unread u n [] s = []
-unread u zero (c ∷ t) s = c ∷ t
-unread u (suc n) (c ∷ t) s = unwrap_or (option_map (λ q. unread u n q.0 q.1) (stepped (piece u c t) s)) (c ∷ t)
-
-abbrev pub unread_in : Bool → Text → Text
-unread_in u t = unread u (length t) t start
-
--- the shorter of two, or the first
-abbrev pub shorter : Text → Text → Text
-shorter a b = if nat_lt (length b) (length a) then b else a
-
--- what is left in the mode that reads further
-abbrev pub unread_of : Text → Text
-unread_of t = shorter (unread_in false t) (unread_in true t)
-
--- how many characters were read, and the next eight
-abbrev pub stop_at : Text → ℕ × List ℕ
-stop_at t = (length t - length (unread_of t), flat_map encode_utf8 (take 8 (unread_of t)))
-
--- Where reading stops of a pattern that isn't plain. Where nothing is left, a group is open.
-abbrev pub stop_of : List ℕ → Option (ℕ × List ℕ)
-stop_of pattern = if is_plain pattern then None else Some (stop_at (chars pattern))

@@ -1,9 +1,10 @@
 //! What a pattern asks of one character, and how it is written for `regex`.
 ghost use Rattle.std.specs.Prelude.{◌≡◌, ◌++◌, OnOk, string_bytes};
 
+use crate::table::{Name, sign, spelling};
 use std::alloc::AllocError;
 
-/// A set of characters that a pattern names: by `.`, by a backslash and a letter, or by `\p` and a general category.
+/// A set of characters that a pattern names: by `.`, by a backslash and a letter, or by `\p` and a property of Unicode.
 #[derive(Clone, Copy)]
 pub enum Set {
     Dot,
@@ -13,10 +14,8 @@ pub enum Set {
     NoSpace,
     Word,
     NoWord,
-    /// A general category of Unicode by its letter, or where the flag is set all else.
-    Category(bool, char),
-    /// One by two letters.
-    Subcategory(bool, char, char),
+    /// What has the property with this name, or where the flag is set all else.
+    Property(bool, Name),
 }
 
 /// One character, or a set that has a name.
@@ -34,7 +33,7 @@ pub enum Member {
     Beside(Atom, Atom),
 }
 
-ghost use Rattle.plain_patterns.specs.Plain.{atom_bytes, member_bytes, property_sign, set_bytes, verbatim};
+ghost use Rattle.plain_patterns.specs.Plain.{atom_bytes, member_bytes, property_bytes, set_bytes, verbatim};
 
 /// Writes a character that stands for itself.
 pub fn write_character(out: &mut String, character: char) -> Result<(), AllocError>
@@ -49,15 +48,14 @@ pub fn write_character(out: &mut String, character: char) -> Result<(), AllocErr
     Ok(())
 }
 
-/// Writes what a general category stands behind.
-fn write_property(out: &mut String, negated: bool) -> Result<(), AllocError>
-    ensures { OnOk result (string_bytes out.new ≡ string_bytes out.old ++ property_sign negated) }
+/// Writes a property, or all that hasn't it.
+fn write_property(out: &mut String, negated: bool, name: Name) -> Result<(), AllocError>
+    ensures { OnOk result (string_bytes out.new ≡ string_bytes out.old ++ property_bytes negated name) }
 {
-    if negated {
-        out.push_str(r"\P{gc=")?;
-        return Ok(());
-    }
-    out.push_str(r"\p{gc=")?;
+    out.push_str(if negated { r"\P{" } else { r"\p{" })?;
+    out.push_str(sign(name.property))?;
+    out.push_str(spelling(name))?;
+    out.push('}')?;
     Ok(())
 }
 
@@ -77,17 +75,7 @@ pub fn write_set(out: &mut String, set: Set) -> Result<(), AllocError>
         )?,
         Set::Word => out.push_str("[0-9A-Za-z_]")?,
         Set::NoWord => out.push_str("[^0-9A-Za-z_]")?,
-        Set::Category(negated, first) => {
-            write_property(out, negated)?;
-            out.push(first)?;
-            out.push('}')?;
-        }
-        Set::Subcategory(negated, first, second) => {
-            write_property(out, negated)?;
-            out.push(first)?;
-            out.push(second)?;
-            out.push('}')?;
-        }
+        Set::Property(negated, name) => write_property(out, negated, name)?,
     }
     Ok(())
 }

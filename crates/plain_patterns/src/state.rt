@@ -12,23 +12,35 @@ pub enum Kind {
     Repetition,
 }
 
-/// How many groups are open, and whether what stands before may be repeated.
+/// How many groups are open, whether what stands before may be repeated, and whether a bar may stand outside of groups.
 #[derive(Clone, Copy)]
 pub struct State {
     pub depth: usize,
     pub repeatable: bool,
+    pub bars: bool,
 }
 
 impl State {
-    ghost use Rattle.plain_patterns.specs.Plain.{start as at_start, state_after};
+    ghost use Rattle.plain_patterns.specs.Ends.{reached as reached_of, start as at_start, state_after};
 
-    /// Where a pattern begins.
-    pub fn start() -> State
-        ensures { result ≡ at_start }
+    /// Where pieces begin.
+    pub fn start(bars: bool) -> State
+        ensures { result ≡ at_start bars }
     {
         State {
             depth: 0,
             repeatable: false,
+            bars,
+        }
+    }
+
+    fn reached(self, depth: usize, repeatable: bool) -> State
+        ensures { result ≡ reached_of self depth repeatable }
+    {
+        State {
+            depth,
+            repeatable,
+            bars: self.bars,
         }
     }
 
@@ -37,29 +49,14 @@ impl State {
         requires { self.depth + 1 < 2 ^ 64 }
         ensures { result ≡ state_after self kind }
     {
-        let State { depth, repeatable } = self;
         match kind {
-            Kind::Opening => Some(State {
-                depth: depth + 1,
-                repeatable: false,
-            }),
-            Kind::Closing if depth == 0 => None,
-            Kind::Closing => Some(State {
-                depth: depth - 1,
-                repeatable: true,
-            }),
-            Kind::Bar | Kind::Assertion => Some(State {
-                depth,
-                repeatable: false,
-            }),
-            Kind::Item => Some(State {
-                depth,
-                repeatable: true,
-            }),
-            Kind::Repetition if repeatable => Some(State {
-                depth,
-                repeatable: false,
-            }),
+            Kind::Opening => Some(self.reached(self.depth + 1, false)),
+            Kind::Closing if self.depth == 0 => None,
+            Kind::Closing => Some(self.reached(self.depth - 1, true)),
+            Kind::Bar if self.depth == 0 && !self.bars => None,
+            Kind::Bar | Kind::Assertion => Some(self.reached(self.depth, false)),
+            Kind::Item => Some(self.reached(self.depth, true)),
+            Kind::Repetition if self.repeatable => Some(self.reached(self.depth, false)),
             Kind::Repetition => None,
         }
     }

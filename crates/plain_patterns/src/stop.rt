@@ -1,8 +1,9 @@
 //! Where reading a pattern stops that isn't plain.
 ghost use Rattle.std.specs.Prelude.{◌≡◌, ◌≤◌, length, take, IfOk, chars, option_map, string_bytes};
-ghost use Rattle.plain_patterns.specs.Plain.{is_plain as is_plain_pattern, shorter as shorter_of, stop_at, stop_of, unread_in, unread_of};
+ghost use Rattle.plain_patterns.specs.Ends.{is_plain as is_plain_pattern, shorter as shorter_of, stop_at, stop_of, unread_in as unread_in_mode, unread_looks as unread_looks_of, unread_of, unread_pieces};
 
 use crate::counts::write_all;
+use crate::look::{after, look, looks_behind};
 use crate::piece::write_piece;
 use crate::state::State;
 use crate::{characters_of, plain_pattern};
@@ -18,13 +19,18 @@ pub struct Stop {
 }
 
 /// What is left of a text from the first piece on that can't stand where it does.
-fn unread<'a>(alloc: Global, unicode: bool, text: &'a [char]) -> Result<&'a [char], AllocError>
-    ensures value { IfOk result (λ u. u.now ≡ unread_in unicode text.now) }
+fn unread<'a>(
+    alloc: Global,
+    unicode: bool,
+    bars: bool,
+    text: &'a [char],
+) -> Result<&'a [char], AllocError>
+    ensures value { IfOk result (λ u. u.now ≡ unread_pieces unicode bars text.now) }
     ensures within { IfOk result (λ u. length u.now ≤ length text.now) }
 {
     let mut out = String::new(alloc);
     let mut left = text;
-    let mut state = State::start();
+    let mut state = State::start(bars);
     while let Some((first, rest)) = left.split_first() {
         let Some((kind, after)) = write_piece(&mut out, unicode, *first, rest)? else {
             return Ok(left);
@@ -38,6 +44,44 @@ fn unread<'a>(alloc: Global, unicode: bool, text: &'a [char]) -> Result<&'a [cha
     Ok(left)
 }
 
+/// What is left where lookaheads stand first.
+fn unread_looks<'a>(
+    alloc: Global,
+    unicode: bool,
+    text: &'a [char],
+) -> Result<&'a [char], AllocError>
+    ensures value { IfOk result (λ u. u.now ≡ unread_looks_of unicode (length text.now) text.now) }
+    ensures within { IfOk result (λ u. length u.now ≤ length text.now) }
+{
+    let mut left = text;
+    while let Some((_, inner)) = look(false, left) {
+        let stop = unread(alloc, unicode, true, inner)?;
+        let Some(rest) = after(')', stop) else {
+            return Ok(stop);
+        };
+        left = rest;
+    }
+    let stop = unread(alloc, unicode, false, left)?;
+    Ok(stop)
+}
+
+/// What is left in one mode.
+fn unread_in<'a>(alloc: Global, unicode: bool, text: &'a [char]) -> Result<&'a [char], AllocError>
+    ensures value { IfOk result (λ u. u.now ≡ unread_in_mode unicode text.now) }
+    ensures within { IfOk result (λ u. length u.now ≤ length text.now) }
+{
+    match looks_behind(text) {
+        Some(rest) => {
+            let stop = unread_looks(alloc, unicode, rest)?;
+            Ok(stop)
+        }
+        None => {
+            let stop = unread(alloc, unicode, true, text)?;
+            Ok(stop)
+        }
+    }
+}
+
 fn shorter<'a>(one: &'a [char], other: &'a [char]) -> &'a [char]
     ensures { result.now ≡ shorter_of one.now other.now }
 {
@@ -49,8 +93,8 @@ fn left_of<'a>(alloc: Global, text: &'a [char]) -> Result<&'a [char], AllocError
     ensures value { IfOk result (λ u. u.now ≡ unread_of text.now) }
     ensures within { IfOk result (λ u. length u.now ≤ length text.now) }
 {
-    let plainly = unread(alloc, false, text)?;
-    let in_unicode_mode = unread(alloc, true, text)?;
+    let plainly = unread_in(alloc, false, text)?;
+    let in_unicode_mode = unread_in(alloc, true, text)?;
     Ok(shorter(plainly, in_unicode_mode))
 }
 

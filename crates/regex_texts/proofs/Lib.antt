@@ -1,2 +1,4 @@
+pub mod Beside
 pub mod Kept
 pub mod Searching
+pub mod Unbuilt

@@ -21,3 +21,12 @@ pub record EndExamples : Type 0 where
   pub whole : matches (codes "^ab$") (codes "ab") ≡ true
   pub front : matches (codes "^ab$") (codes "abc") ≡ false
   pub back : matches (codes "b$") (codes "ab") ≡ true
+  pub denied : matches (codes "^(?!ab)a") (codes "ac") ≡ true
+  pub denied_there : matches (codes "^(?!ab)a") (codes "ab") ≡ false
+  pub own_missing : matches (codes "^(?!ab)a") (codes "ba") ≡ false
+  pub asked : matches (codes "^(?=ab|c)(?!ac)a") (codes "ab") ≡ true
+  pub second_denied : matches (codes "^(?=a)(?!ac)a") (codes "ac") ≡ false
+  pub first_missing : matches (codes "^(?=ab|c)(?!ac)a") (codes "aa") ≡ false
+  pub before_the_end : matches (codes "^a*(?<!aa)$") (codes "a") ≡ true
+  pub denied_at_the_end : matches (codes "^a*(?<!aa)$") (codes "aa") ≡ false
+  pub within : matches (codes "^a(?=b)") (codes "ab") ≡ false

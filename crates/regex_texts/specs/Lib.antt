@@ -1,4 +1,5 @@
 pub mod Examples
+pub mod Names
 pub mod Refused
 pub mod Search
 pub mod Searchers

@@ -2,18 +2,17 @@
 ghost use Rattle.std.specs.Prelude.{◌≡◌, ◌≢◌, ℕ, ◌≤◌, List, Some, true, is_some, IfOk, OnOk, IsErrOf, option_copied};
 ghost use Rattle.std.specs.BTreeMap.{get_by_text};
 ghost use Rattle.schema_defs.specs.Faults.{Rises};
-ghost use Rattle.plain_patterns.specs.Plain.{is_plain};
+ghost use Rattle.plain_patterns.specs.Ends.{is_plain};
 ghost use Rattle.regex_texts.specs.Search.{matches, regex_relations};
-ghost use Rattle.regex_texts.specs.Searchers.{Searches};
+ghost use Rattle.regex_texts.specs.Searchers.{Searches, search_seen};
 ghost use Rattle.regex_texts.specs.Refused.{IsRefused};
+ghost use Rattle.regex_texts.specs.declared.search.Search.{Search};
 ghost use Rattle.schema_defs.specs.Formats.{has_format as of_format};
 ghost use Rattle.schema_defs.specs.Texts.{IsLawful};
-ghost use Rattle.regex.specs.Strings.{matcher_pattern, regex_pattern};
-ghost use Rattle.regex.specs.declared.string.matcher.Matcher.{Matcher};
 
-use crate::search::{compile, searcher};
+use crate::search::{Search, compile};
 use plain_patterns::plain_pattern;
-use regex::{Error, Matcher, Regex};
+use regex::Error;
 use schema_defs::Format;
 use schema_texts::{TextFault, Texts, has_format};
 use std::alloc::{AllocError, Global};
@@ -25,9 +24,9 @@ use std::collections::BTreeMap;
 #[derive(Drop)]
 pub struct RegexTexts {
     alloc: Global,
-    compiled: BTreeMap<String, Matcher<'static>>,
+    compiled: BTreeMap<String, Search>,
     faults: u64,
-    ghost searching: { (pattern : List ℕ) (m : Matcher) → get_by_text compiled pattern ≡ Some m → Searches pattern (matcher_pattern m) },
+    ghost searching: { (pattern : List ℕ) (s : Search) → get_by_text compiled pattern ≡ Some s → Searches pattern (search_seen s) },
 }
 
 impl RegexTexts {
@@ -55,13 +54,13 @@ impl RegexTexts {
         if self.compiled.contains_key(pattern) {
             return Ok(true);
         }
-        let source = match plain_pattern(self.alloc, pattern) {
-            Ok(Some(source)) => source,
+        let searches = match plain_pattern(self.alloc, pattern) {
+            Ok(Some(searches)) => searches,
             Ok(None) => return Ok(false),
             Err(_) => return Err(TextFault::Memory),
         };
-        match compile(self.alloc, &source) {
-            Ok(regex) => self.keep(pattern, regex),
+        match compile(self.alloc, &searches) {
+            Ok(search) => self.keep(pattern, search),
             Err(error) => Err(self.fault(error)),
         }
     }
@@ -83,19 +82,16 @@ impl RegexTexts {
     }
 
     // Keeps what was compiled for a pattern.
-    fn keep(&mut self, pattern: &str, regex: Regex) -> Result<bool, TextFault>
-        requires { Searches pattern.now (regex_pattern regex) }
+    fn keep(&mut self, pattern: &str, search: Search) -> Result<bool, TextFault>
+        requires { Searches pattern.now (search_seen search) }
         ensures kept { IfOk result (λ b. (b ≡ true) × (is_some (get_by_text self.new.compiled pattern.now) ≡ true)) }
         ensures failed { IsErrOf result TextFault.Failed → ⊥ }
         ensures counts { self.new.faults ≡ self.old.faults }
     {
-        let Ok(matcher) = searcher(self.alloc, regex) else {
-            return Err(TextFault::Memory);
-        };
         let Ok(key) = String::from_str(self.alloc, pattern) else {
             return Err(TextFault::Memory);
         };
-        match self.compiled.insert(key, matcher) {
+        match self.compiled.insert(key, search) {
             Ok(_) => Ok(true),
             Err(_) => Err(TextFault::Memory),
         }
@@ -128,7 +124,7 @@ impl Texts for RegexTexts {
     {
         self.prepare(pattern)?;
         match self.compiled.get_mut(pattern) {
-            Some(matcher) => Ok(matcher.is_match(text)),
+            Some(search) => Ok(search.is_match(text)),
             None => Ok(false),
         }
     }

@@ -1,5 +1,6 @@
-use Rattle.std.proofs.Common.{◌≡◌, ◌∙◌, subst, IfOk, option_map, string_bytes}
-use Rattle.plain_patterns.proofs.Scanned.{first_mode, second_mode}
+use Rattle.std.proofs.Common.{◌≡◌, ◌∙◌, subst, IfOk, option_map}
+use Rattle.plain_patterns.specs.Ends.{seen}
+use Rattle.plain_patterns.proofs.Modes.{first_mode, second_mode}
 use Rattle.plain_patterns.proofs.plain_pattern.Goals as goal
 
 pub returns-in-Some : goal.returns-in-Some
@@ -9,7 +10,7 @@ returns-in-Some c = record {
 
 pub returns : goal.returns
 returns c = record {
-  rewritten = subst (λ t. IfOk c.written_in-in-None.result (λ o. option_map string_bytes o ≡ t))
+  rewritten = subst (λ t. IfOk c.written_in-in-None.result (λ o. option_map seen o ≡ t))
       (second_mode _ _ _ (c.as_slice.ensures.value ∙ c.in_ok-characters.ensures) (rw c.in-None.is at c.in_ok-written.ensures)
       (c.as_slice-in-None.ensures.value ∙ c.in_ok-characters.ensures)) c.written_in-in-None.ensures;
 }

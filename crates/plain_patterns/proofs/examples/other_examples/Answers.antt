@@ -1,11 +1,13 @@
 use Rattle.std.proofs.Common.{refl}
 use Rattle.std.specs.Char.{encode_utf8}
 use Rattle.std.specs.Str.{chars}
-use Rattle.plain_patterns.specs.Plain.{members, piece, pieces, rewritten}
+use Rattle.plain_patterns.specs.Plain.{members, piece, property}
+use Rattle.plain_patterns.specs.Ends.{looks, read_from, rewritten}
+use Rattle.plain_patterns.specs.Properties.{binary_names, categories}
 use Rattle.plain_patterns.proofs.examples.other_examples.Goals as goal
 
 pub returns : goal.returns
-unfolding chars encode_utf8 members piece pieces rewritten
+unfolding binary_names categories chars encode_utf8 looks members piece property read_from rewritten
 returns c = record {
   lone_star = refl;
   star_after_bar = refl;
@@ -42,8 +44,6 @@ returns c = record {
   bracket_in_unicode_mode = refl;
   set_in_range_in_unicode_mode = refl;
   hyphen_escaped_in_unicode_mode = refl;
-  long_category = refl;
-  surrogates = refl;
   code_too_large = refl;
   half_in_braces = refl;
   octal = refl;

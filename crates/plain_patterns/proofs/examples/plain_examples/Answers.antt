@@ -1,11 +1,13 @@
 use Rattle.std.proofs.Common.{refl}
 use Rattle.std.specs.Char.{encode_utf8}
 use Rattle.std.specs.Str.{chars}
-use Rattle.plain_patterns.specs.Plain.{members, piece, pieces, rewritten}
+use Rattle.plain_patterns.specs.Plain.{members, piece, property}
+use Rattle.plain_patterns.specs.Ends.{looks, read_from, rewritten}
+use Rattle.plain_patterns.specs.Properties.{binary_names, categories}
 use Rattle.plain_patterns.proofs.examples.plain_examples.Goals as goal
 
 pub returns : goal.returns
-unfolding chars encode_utf8 members piece pieces rewritten
+unfolding binary_names categories chars encode_utf8 looks members piece property read_from rewritten
 returns c = record {
   empty = refl;
   letters = refl;
@@ -61,7 +63,6 @@ returns c = record {
   brace_behind_count = refl;
   bracket = refl;
   blank = refl;
-  categories = refl;
   code_in_braces = refl;
   hyphen_in_unicode_mode = refl;
 }

@@ -1,11 +1,13 @@
 use Rattle.std.proofs.Common.{refl}
 use Rattle.std.specs.Char.{encode_utf8}
 use Rattle.std.specs.Str.{chars}
-use Rattle.plain_patterns.specs.Plain.{members, piece, pieces, rewritten, unread}
+use Rattle.plain_patterns.specs.Plain.{members, piece, property}
+use Rattle.plain_patterns.specs.Ends.{looks, read_from, rewritten, unread, unread_looks}
+use Rattle.plain_patterns.specs.Properties.{binary_names, categories}
 use Rattle.plain_patterns.proofs.examples.stop_examples.Goals as goal
 
 pub returns : goal.returns
-unfolding chars encode_utf8 members piece pieces rewritten unread
+unfolding binary_names categories chars encode_utf8 looks members piece property read_from rewritten unread unread_looks
 returns c = record {
   plain = refl;
   lookahead = refl;

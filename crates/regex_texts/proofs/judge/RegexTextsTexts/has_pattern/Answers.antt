@@ -6,7 +6,7 @@ pub invariant_of-self : goal.invariant_of-self
 invariant_of-self c =
     let m = c.prepare.new.self.compiled in
     let w = c.is_match.new.self in
-    record { searching = searched c.args.pattern.now m (c.get_mut.follows.lender w) c.in-Some.matcher.now w (c.get_mut.follows.holds w).3 c.in-Some.ensures.value c.is_match.ensures.same c.prepare.new.self.searching }
+    record { searching = searched c.args.pattern.now m (c.get_mut.follows.lender w) c.in-Some.search.now w (c.get_mut.follows.holds w).3 c.in-Some.ensures.value c.is_match.ensures.same c.prepare.new.self.searching }
 
 pub returns-in-None-clause-answer : goal.returns-in-None-clause-answer
 returns-in-None-clause-answer c =

@@ -1,0 +1,19 @@
+use Rattle.std.proofs.Common.{refl}
+use Rattle.std.specs.Char.{encode_utf8}
+use Rattle.std.specs.Str.{chars}
+use Rattle.plain_patterns.specs.Plain.{members, piece, property}
+use Rattle.plain_patterns.specs.Ends.{looks, read_from, rewritten, unread, unread_looks}
+use Rattle.plain_patterns.specs.Properties.{binary_names, categories}
+use Rattle.plain_patterns.proofs.examples.stopped_ends_examples.Goals as goal
+
+pub returns : goal.returns
+unfolding binary_names categories chars encode_utf8 looks members piece property read_from rewritten unread unread_looks
+returns c = record {
+  plain = refl;
+  bar = refl;
+  one_in_another = refl;
+  not_closed = refl;
+  behind_lookaheads = refl;
+  not_at_end = refl;
+  bar_before = refl;
+}
