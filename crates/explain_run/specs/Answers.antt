@@ -1,4 +1,4 @@
--- What `explain` prints: of a schema that compiles, or of its first fault, with where reading stops of patterns; then the keywords that are passed over, and `end`.
+-- What `explain` prints: of a schema that compiles, or of its first fault, with what stands at its place; then the keywords that are passed over, and `end`.
 use Rattle.std.specs.Prelude.{◌≡◌, ℕ, List, ◌++◌, length, codes}
 use Rattle.std.specs.List.{flat_map}
 use Rattle.serde_json.specs.Data.{Data}
@@ -8,7 +8,7 @@ use Rattle.schema_tree.specs.declared.fault.Fault.{Fault}
 use Rattle.convert_document.specs.declared.note.Note.{Note}
 use Rattle.fault_texts.specs.Explained.{fault_explained, line}
 use Rattle.passed_keywords.specs.Passed.{passed_text}
-use Rattle.stopped_patterns.specs.Stops.{stop_lines}
+use Rattle.fault_places.specs.Places.{place_lines}
 use Rattle.typify_run.specs.Page.{items_line, note_line}
 use Rattle.typify_run.specs.declared.report.Report.{Report}
 use Rattle.schema_words.specs.Said.{Said, page, no}
@@ -28,12 +28,12 @@ ending v = passed_text v ++ codes "end\n"
 abbrev pub compiled_page : Value → Report → List ℕ
 compiled_page v r = codes "compiles\n" ++ items_line (length r.items.items) ++ notes_explained r.notes.items ++ ending v
 
-abbrev pub fault_page : Value → Fault → List ℕ
-fault_page v f = fault_explained f ++ stop_lines v f ++ ending v
+abbrev pub fault_page : Data → Fault → List ℕ
+fault_page d f = fault_explained f ++ place_lines d f ++ ending (value_of d)
 
 abbrev pub Explains : Data → Report → Said → Type 0
 Explains d r (page text) = text ≡ compiled_page (value_of d) r
 Explains d r (no text) = ⊥
 
 abbrev pub Tells : Data → Fault → List ℕ → Type 0
-Tells d f text = text ≡ fault_page (value_of d) f
+Tells d f text = text ≡ fault_page d f

@@ -10,17 +10,17 @@ ghost use Rattle.explain_run.specs.Answers.{Explains, Tells, compiled_page, endi
 
 use crate::notes::note_sentence;
 use convert_document::Note;
+use fault_places::push_place;
 use fault_texts::fault_explained;
 use passed_keywords::passed_text;
 use schema_tree::Fault;
 use schema_words::{Answer, Answering};
 use serde_json::Value;
 use std::alloc::{AllocError, Global};
-use stopped_patterns::push_stops;
 use typify_run::{Report, note_line};
 
 /// What `explain` answers: that the schema compiles, with the number of items and each note with what it means, or its first fault with what it carries, the
-/// rule, what to change, and where reading stops of patterns that stand there and aren't plain; then the keywords that are passed over, and `end`.
+/// rule, what to change, and what stands at its place; then the keywords that are passed over, and `end`.
 #[derive(Clone, Copy)]
 pub struct Explaining;
 
@@ -81,10 +81,10 @@ fn compiled_text(alloc: Global, schema: &Value, report: &Report) -> Result<Strin
 }
 
 fn fault_text(alloc: Global, schema: &Value, fault: &Fault) -> Result<String, AllocError>
-    ensures { IfOk result (λ s. string_bytes s ≡ fault_page (value_of (view schema.now)) fault.now) }
+    ensures { IfOk result (λ s. string_bytes s ≡ fault_page (view schema.now) fault.now) }
 {
     let mut text = fault_explained(alloc, fault)?;
-    push_stops(&mut text, alloc, schema, fault)?;
+    push_place(&mut text, alloc, schema, fault)?;
     push_ending(&mut text, alloc, schema)?;
     Ok(text)
 }

@@ -1,13 +1,13 @@
 -- A value whose numbers are whole has no float.
-use Rattle.std.proofs.Common.{◌≡◌, Bool, true, false, ◌&&◌, ◌||◌, refl, ap, ◌∙◌}
-use Rattle.std.specs.Prelude.{not, codes, if◌then◌else◌, []}
+use Rattle.std.proofs.Common.{◌≡◌, ℕ, List, Bool, true, false, ◌&&◌, ◌||◌, refl, ap, ◌∙◌}
+use Rattle.std.specs.Prelude.{not, if◌then◌else◌, []}
 use Rattle.serde_json.specs.Data as data'
 use Rattle.serde_json.specs.Data.{Data, Num, unsigned, negative, float}
 use Rattle.serde_json.specs.Find.{is_float}
 use Rattle.serde_json.specs.Written.{compact_text, has_float, items_have_float, members_have_float}
 use Rattle.json_value.specs.Value.{is_whole, all_whole, members_whole}
 use Rattle.json_value.specs.View.{value_of, items_of, members_of, number_value}
-use Rattle.fault_texts.specs.Explained.{line, value_lines}
+use Rattle.fault_texts.specs.Explained.{line, whole_line}
 
 not_and : (a b : Bool) → (not a || not b) ≡ not (a && b)
 not_and true b = refl
@@ -38,5 +38,5 @@ mutual
 pub whole_has_no_float : (d : Data) → is_whole (value_of d) ≡ true → has_float d ≡ false
 whole_has_no_float d h = floats d ∙ ap not h
 
-pub whole_is_shown : (d : Data) → is_whole (value_of d) ≡ true → value_lines d ≡ line (codes "value") (compact_text d)
-whole_is_shown d h = ap (λ b. if b then line (codes "value") (compact_text d) else []) h
+pub whole_is_shown : (word : List ℕ) (d : Data) → is_whole (value_of d) ≡ true → whole_line word d ≡ line word (compact_text d)
+whole_is_shown word d h = ap (λ b. if b then line word (compact_text d) else []) h

@@ -28,8 +28,8 @@ abbrev pub step_lines : List Location → List ℕ
 step_lines ls = flat_map (place_line (codes "step")) ls
 
 -- a value as JSON without spaces, where all its numbers are whole
-abbrev pub value_lines : Data → List ℕ
-value_lines d = if is_whole (value_of d) then line (codes "value") (compact_text d) else []
+abbrev pub whole_line : List ℕ → Data → List ℕ
+whole_line word d = if is_whole (value_of d) then line word (compact_text d) else []
 
 -- what a fault carries beside its place: the keyword, the reference, the steps of the walk, the value, the number of places, or the kind
 abbrev pub carried : Fault → List ℕ
@@ -42,8 +42,8 @@ carried (variant.Depth walk) = step_lines walk
 carried (variant.Places path n) = line (codes "places") (decimal n)
 carried (variant.Float path) = []
 carried (variant.ValueNumber index path) = []
-carried (variant.InvalidValue path v) = value_lines (view v)
-carried (variant.BadValue path v) = value_lines (view v)
+carried (variant.InvalidValue path v) = whole_line (codes "value") (view v)
+carried (variant.BadValue path v) = whole_line (codes "value") (view v)
 carried (variant.InvalidSchema path kind) = line (codes "kind") (invalid_word kind)
 carried (variant.Unsupported path kind) = line (codes "kind") (unsupported_word kind)
 carried (variant.Texts path) = []

@@ -18,7 +18,7 @@ invalid_rule Pattern = codes "The pattern isn't plain, which is what means one t
 
 abbrev pub invalid_change : InvalidKind → List ℕ
 invalid_change Array = codes "Of a list by place let both sizes be its length, or write one schema at `items`. Leave `contains` out: then more lists are taken."
-invalid_change Pattern = codes "Leave out what begins with `(?` but for `(?:`, references such as `\\1`, letters behind a backslash that have no meaning there, and a quantifier behind a quantifier. docs/FAULTS.md has the rest."
+invalid_change Pattern = codes "Let lookaheads stand right behind a `^` at the front, lookbehinds right before a `$` at the end, and no bar outside of groups beside these. Leave out what else begins with `(?` but for `(?:`, references such as `\\1`, letters behind a backslash that have no meaning there, and a quantifier behind a quantifier. docs/FAULTS.md has the rest."
 
 abbrev pub unsupported_word : UnsupportedKind → List ℕ
 unsupported_word Conditional = codes "Conditional"

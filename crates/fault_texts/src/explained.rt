@@ -1,7 +1,7 @@
 //! The lines that explain a fault.
 ghost use Rattle.std.specs.Prelude.{◌≡◌, ◌++◌, IfOk, OnOk, codes, decimal, string_bytes};
 ghost use Rattle.serde_json.specs.View.{view};
-ghost use Rattle.fault_texts.specs.Explained.{carried, fault_explained as fault_text, line as line_of, place_line, quoted_line, step_lines, value_lines};
+ghost use Rattle.fault_texts.specs.Explained.{carried, fault_explained as fault_text, line as line_of, place_line, quoted_line, step_lines, whole_line};
 
 use crate::sentences::{change_of, invalid_word, rule_of, unsupported_word};
 use json_value::is_whole;
@@ -66,14 +66,19 @@ fn push_steps(out: &mut String, alloc: Global, walk: &Walk) -> Result<(), AllocE
     Ok(())
 }
 
-// A value whose numbers are whole.
+/// The same of a value as JSON without spaces, where all its numbers are whole; else nothing.
 #[tactic(auto, using(crate::proofs::Whole::whole_has_no_float, crate::proofs::Whole::whole_is_shown))]
-fn push_value(out: &mut String, alloc: Global, value: &Value) -> Result<(), AllocError>
-    ensures { OnOk result (string_bytes out.new ≡ string_bytes out.old ++ value_lines (view value.now)) }
+pub fn push_whole(
+    out: &mut String,
+    alloc: Global,
+    word: &str,
+    value: &Value,
+) -> Result<(), AllocError>
+    ensures { OnOk result (string_bytes out.new ≡ string_bytes out.old ++ whole_line word.now (view value.now)) }
 {
     if is_whole(value) {
         let json = value.to_string(alloc)?;
-        push_line(out, "value", &json)?;
+        push_line(out, word, &json)?;
     }
     Ok(())
 }
@@ -97,8 +102,8 @@ fn push_carried(out: &mut String, alloc: Global, fault: &Fault) -> Result<(), Al
         Fault::Unguarded { walk } => push_steps(out, alloc, walk),
         Fault::Depth { walk } => push_steps(out, alloc, walk),
         Fault::Places { places, .. } => push_number(out, alloc, *places),
-        Fault::InvalidValue { value, .. } => push_value(out, alloc, value),
-        Fault::BadValue { value, .. } => push_value(out, alloc, value),
+        Fault::InvalidValue { value, .. } => push_whole(out, alloc, "value", value),
+        Fault::BadValue { value, .. } => push_whole(out, alloc, "value", value),
         Fault::InvalidSchema { kind, .. } => push_line(out, "kind", invalid_word(*kind)),
         Fault::Unsupported { kind, .. } => push_line(out, "kind", unsupported_word(*kind)),
         Fault::Memory | Fault::Float { .. } | Fault::ValueNumber { .. } | Fault::Texts { .. } => Ok(

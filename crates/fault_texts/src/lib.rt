@@ -4,5 +4,5 @@
 mod explained;
 mod sentences;
 
-pub use explained::{fault_explained, push_line, push_quoted};
+pub use explained::{fault_explained, push_line, push_quoted, push_whole};
 pub use sentences::{change_of, rule_of};

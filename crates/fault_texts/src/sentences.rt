@@ -35,7 +35,7 @@ fn invalid_change(kind: InvalidKind) -> &'static str
         InvalidKind::Array =>
             "Of a list by place let both sizes be its length, or write one schema at `items`. Leave `contains` out: then more lists are taken.",
         InvalidKind::Pattern =>
-            "Leave out what begins with `(?` but for `(?:`, references such as `\\1`, letters behind a backslash that have no meaning there, and a quantifier behind a quantifier. docs/FAULTS.md has the rest.",
+            "Let lookaheads stand right behind a `^` at the front, lookbehinds right before a `$` at the end, and no bar outside of groups beside these. Leave out what else begins with `(?` but for `(?:`, references such as `\\1`, letters behind a backslash that have no meaning there, and a quantifier behind a quantifier. docs/FAULTS.md has the rest.",
     }
 }
 

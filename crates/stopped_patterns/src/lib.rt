@@ -1,7 +1,0 @@
-//! Where reading stops of patterns that aren't plain.
-#![tactic(auto)]
-
-mod lines;
-mod place;
-
-pub use lines::push_stops;
