@@ -1,6 +1,6 @@
 -- The names of the definitions' items, given one after another.
-use Rattle.std.proofs.Common.{◌≡◌, ℕ, ◌+◌, Bool, true, false, List, [], ◌∷◌, ◌++◌, map, length, refl, ap, sym, subst, ◌∙◌, append_assoc, append-nil}
-use Rattle.std.specs.List.{flat_map}
+use Rattle.std.proofs.Common.{◌≡◌, ℕ, ◌+◌, Bool, true, false, List, [], ◌∷◌, ◌++◌, map, length, bytes_eq, refl, ap, sym, subst, ◌∙◌, append_assoc, append-nil}
+use Rattle.std.specs.List.{flat_map, IsDistinct}
 use Rattle.std.proofs.lemmas.List.{map-append}
 use Rattle.schema_defs.specs.Texts.{Relations}
 use Rattle.schema_defs.specs.Schema.{Document, Definition}
@@ -8,6 +8,7 @@ use Rattle.entry_defs.specs.Entry.{definition, the_root, Entry, boolean_entry, i
 use Rattle.entry_defs.specs.Table.{ItemEntry, TargetEntry, Table, root_of, items_in, items_in_shape, items_of}
 use Rattle.naming_defs.specs.Names.{Names, is_value, taking, item_name, named_shape, named_targets, after_targets, keys, named_table}
 use Rattle.naming_defs.specs.Good.{is_good_name}
+use Rattle.naming_defs.proofs.Fresh.{names-distinct}
 use Rattle.emit_defs.specs.Setting.{Setting, setting_of}
 use Rattle.emit_defs.specs.Models.{shape_defaults}
 use Rattle.emit_defs.specs.Trees.{item_trees}
@@ -16,7 +17,7 @@ use Rattle.convert_walks.specs.Tree.{entry_at, definition_spot, definition_targe
 use Rattle.convert_defs.specs.RootReference.{refers_to_root}
 use Rattle.merged_documents.specs.Laws.{plan_of}
 use Rattle.item_docs.specs.Docs.{names_in, definition_docs}
-use Rattle.doc_laws.specs.Laws.{doc_names, item_names, DocsHaveItemsNames}
+use Rattle.doc_laws.specs.Laws.{doc_names, item_names, DocsHaveItemsNames, ItemNamesDiffer}
 use Rattle.doc_laws.proofs.Alike.{Alike, taking_alike, name_alike}
 
 -- ---- names that targets are given
@@ -106,3 +107,8 @@ docs_have_items_names r d most n =
           ∙ ap (λ z. map (λ i. i.name) z) (sym (append_assoc led inner trees))
           ∙ sym (trees_named (setting_of p) (items_of p) 0),
     )
+
+pub item_names_differ : ItemNamesDiffer
+item_names_differ r d most n =
+    let p = plan_of r d most n in
+    subst (IsDistinct bytes_eq) (sym (trees_named (setting_of p) (items_of p) 0)) (names-distinct is_good_name (table_of r d most n))

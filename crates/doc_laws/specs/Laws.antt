@@ -1,5 +1,6 @@
 -- The names by which docs are told are those of items.
-use Rattle.std.specs.Prelude.{◌≡◌, ℕ, List, [], ◌++◌, map}
+use Rattle.std.specs.Prelude.{◌≡◌, ℕ, List, [], ◌++◌, map, bytes_eq}
+use Rattle.std.specs.List.{IsDistinct}
 use Rattle.schema_defs.specs.Texts.{Relations}
 use Rattle.schema_defs.specs.Schema.{Document}
 use Rattle.entry_defs.specs.Table.{root_of}
@@ -19,3 +20,7 @@ item_names r d most n = map (λ i. i.name.text) (emission (plan_of r d most n) (
 -- they are the first of these, whatever the document's schemas are converted to
 abbrev pub DocsHaveItemsNames : Type 0
 DocsHaveItemsNames = (r : Relations) (d : Document) (most n : ℕ) → (more : Names) × (doc_names d ++ more ≡ item_names r d most n)
+
+-- no two items have one name
+abbrev pub ItemNamesDiffer : Type 0
+ItemNamesDiffer = (r : Relations) (d : Document) (most n : ℕ) → IsDistinct bytes_eq (item_names r d most n)

@@ -3,4 +3,4 @@
 
 mod laws;
 
-pub use laws::docs_have_items_names;
+pub use laws::{docs_have_items_names, item_names_differ};

@@ -1,1 +1,4 @@
+pub mod Added
+pub mod Bare
 pub mod Naming
+pub mod Tables

@@ -8,7 +8,8 @@ use Rattle.good_names.specs.Given.{Stands, Does, item_given}
 use Rattle.good_names.specs.declared.given.GivenNames.{GivenNames}
 use Rattle.module_texts.specs.Docs.{Doc, doc_view}
 use Rattle.module_texts.specs.declared.docs.ItemDoc.{ItemDoc}
-use Rattle.item_docs.specs.Docs.{body_in, definition_docs, said_where}
+use Rattle.item_docs.specs.Said.{said_where}
+use Rattle.item_docs.specs.Docs.{body_in, definition_docs}
 
 abbrev T : List ℕ
 T = codes "Type"

@@ -1,2 +1,7 @@
+pub mod Said
+pub mod Places
+pub mod Forms
+pub mod FormView
+pub mod Nested
 pub mod Docs
 pub mod Examples

@@ -3,6 +3,10 @@
 
 mod docs;
 pub mod examples;
+mod forms;
+mod nested;
+mod ordered;
 mod said;
+mod table;
 
 pub use docs::item_docs;

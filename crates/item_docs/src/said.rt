@@ -1,7 +1,7 @@
 //! What is said of the item of one schema.
 ghost use Rattle.std.specs.Prelude.{◌≡◌, IfOk, option_map, string_bytes};
 ghost use Rattle.schema_types.specs.View.{object_view, schema_view};
-ghost use Rattle.item_docs.specs.Docs.{other_than as other_than_name, said_of as said_of_schema, said_where as said_where_schema, stated as stated_by, with_gap as with_gap_between};
+ghost use Rattle.item_docs.specs.Said.{other_than as other_than_name, said_of as said_of_schema, said_where as said_where_schema, stated as stated_by, with_gap as with_gap_between};
 
 use schema_types::{Schema, SchemaObject};
 use std::alloc::{AllocError, Global};
@@ -46,7 +46,11 @@ fn with_gap(alloc: Global, title: &str, description: &str) -> Result<String, All
     Ok(text)
 }
 
-fn said_of_object(alloc: Global, item: &str, schema: &SchemaObject) -> Result<String, AllocError>
+pub(crate) fn said_of_object(
+    alloc: Global,
+    item: &str,
+    schema: &SchemaObject,
+) -> Result<String, AllocError>
     ensures { IfOk result (λ s. string_bytes s ≡ said_of_schema item.now (object_view schema.now)) }
 {
     let title = other_than(item, &schema.title);

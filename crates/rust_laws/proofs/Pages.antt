@@ -1,6 +1,7 @@
 -- The items of a page, and the docs above them.
-use Rattle.std.proofs.Common.{◌≡◌, ℕ, Bool, true, false, true≢false, cond, List, [], ◌∷◌, ◌++◌, map, Some, option_map, bytes_eq, refl, ap, sym, ◌∙◌}
-use Rattle.std.specs.List.{AllByRecursion}
+use Rattle.std.proofs.Common.{◌≡◌, ℕ, Bool, true, false, true≢false, cond, List, [], ◌∷◌, ◌++◌, map, Some, option_map, bytes_eq, refl, ap, sym, subst, append_assoc, ◌∙◌}
+use Rattle.std.specs.List.{AllByRecursion, IsDistinct}
+use Rattle.std.proofs.lemmas.Map.Keys.{IsDistinct-head, IsDistinct-tail}
 use Rattle.std.proofs.lemmas.Slice.Eq.{bytes_eq-Decides}
 use Rattle.whole_numbers.specs.Whole.{whole}
 use Rattle.serde_json.specs.Data.{Data}
@@ -31,12 +32,14 @@ use Rattle.schema_words.specs.Words.{Asking}
 use Rattle.module_texts.specs.Docs.{Doc}
 use Rattle.emitted_modules.specs.Laws.{KeepsTokens}
 use Rattle.emitted_modules.proofs.Texts.{items_of_programs_keep_tokens}
-use Rattle.item_docs.specs.Docs.{names_in, body_in, said_where, definition_docs, item_in, root_docs, docs_in}
-use Rattle.doc_laws.specs.Laws.{doc_names}
-use Rattle.doc_laws.proofs.Names.{docs_have_items_names}
-use Rattle.rust_laws.specs.Laws.{PagesKeepItems, DocsStandAtTheirItems, DocsStand, docs_above, of_definitions}
+use Rattle.item_docs.specs.Said.{said_where}
+use Rattle.item_docs.specs.Forms.{first_named, item_in}
+use Rattle.item_docs.specs.Docs.{names_in, body_in, definition_docs, of_definitions, root_docs, below_docs, told_docs, text_in, text_for, in_order, docs_in}
+use Rattle.doc_laws.specs.Laws.{doc_names, item_names}
+use Rattle.doc_laws.proofs.Names.{docs_have_items_names, item_names_differ}
+use Rattle.rust_laws.specs.Laws.{PagesKeepItems, DocsStandAtTheirItems, DocsStand, docs_above}
 
--- ---- docs that have the names of the first items stand above these
+-- ---- docs in the order of the items stand above these
 
 abbrev doc_items : List Doc → Names
 doc_items ds = map (λ x. x.item) ds
@@ -44,34 +47,53 @@ doc_items ds = map (λ x. x.item) ds
 abbrev names : List ItemD → Names
 names is = map (λ i. i.name.text) is
 
+itself : (n : List ℕ) → bytes_eq n n ≡ true
+itself n = (bytes_eq-Decides n n).1 refl
+
+above_in_order : (ds : List Doc) (is : List ItemD) → docs_above is (in_order ds is) ≡ map (text_for ds) (names is)
+above_in_order ds [] = refl
+above_in_order ds (i ∷ is) =
+    let n = i.name.text in (λ j. cond (itself n j) (text_for ds n) [] ∷ docs_above is (cond (itself n j) (in_order ds is) (in_order ds (i ∷ is)))) ∙ ap (λ z. text_for ds n ∷ z) (above_in_order ds is)
+
+by_names : (ds : List Doc) (is : List ItemD) → map (text_for ds) (names is) ≡ map (λ i. text_for ds i.name.text) is
+by_names ds [] = refl
+by_names ds (i ∷ is) = ap (λ z. text_for ds i.name.text ∷ z) (by_names ds is)
+
+-- ---- the items behind the first
+
 abbrev is_nil : Names → Bool
 is_nil [] = true
 is_nil (n ∷ ns) = false
-
-abbrev first : Names → List ℕ
-first [] = []
-first (n ∷ ns) = n
 
 abbrev behind : Names → Names
 behind [] = []
 behind (n ∷ ns) = ns
 
-record Placed (own more : List Doc) (left : Names) (is : List ItemD) : Type 0 where
-  others : List ItemD
-  same : left ≡ names others
-  stand : docs_above is (own ++ more) ≡ map (λ x. x.text) own ++ docs_above others more
+left_items : (own left : Names) (is : List ItemD) → own ++ left ≡ names is → (others : List ItemD) × (left ≡ names others)
+left_items [] left is e = (is, e)
+left_items (n ∷ own) left [] e = absurd (true≢false (sym (ap is_nil e)))
+left_items (n ∷ own) left (i ∷ is) e = left_items own left is (ap behind e)
 
-placed : (own more : List Doc) (left : Names) (is : List ItemD) → doc_items own ++ left ≡ names is → Placed own more left is
-placed [] more left is e = record { others = is; same = e; stand = refl }
-placed (x ∷ own) more left [] e = absurd (true≢false (sym (ap is_nil e)))
-placed (x ∷ own) more left (i ∷ is) e =
-    let rest = placed own more left is (ap behind e) in
-    let one : bytes_eq x.item i.name.text ≡ true = (bytes_eq-Decides x.item i.name.text).1 (ap first e) in
-    record {
-      others = rest.others;
-      same = rest.same;
-      stand = (λ j. cond (one j) x.text [] ∷ docs_above is (cond (one j) (own ++ more) (x ∷ (own ++ more)))) ∙ ap (λ z. x.text ∷ z) rest.stand;
-    }
+-- ---- names that differ have their own texts
+
+differ_turned : (m n : List ℕ) → bytes_eq m n ≡ false → bytes_eq n m ≡ false
+differ_turned m n h = by (bytes_eq n m) refl
+  where
+    by : (b : Bool) → bytes_eq n m ≡ b → b ≡ false
+    by true e = absurd (true≢false (sym ((bytes_eq-Decides m n).1 (sym ((bytes_eq-Decides n m).0 e))) ∙ h))
+    by false e = refl
+
+passed_over : (x : Doc) (ds : List Doc) (ns : Names) → AllByRecursion (λ n. bytes_eq x.item n ≡ false) ns → map (text_for (x ∷ ds)) ns ≡ map (text_for ds) ns
+passed_over x ds [] a = refl
+passed_over x ds (n ∷ ns) a = λ j. text_in (cond (differ_turned x.item n a.0 j) (Some x) (first_named (λ x. x.item) n ds)) ∷ passed_over x ds ns a.1 j
+
+texts : (own more : List Doc) (left : Names) → IsDistinct bytes_eq (doc_items own ++ left) → map (text_for (own ++ more)) (doc_items own ++ left) ≡ map (λ x. x.text) own ++ map (text_for more) left
+texts [] more left d = refl
+texts (x ∷ own) more left d =
+    let ns = doc_items own ++ left in
+    let a = IsDistinct-head bytes_eq x.item ns d in
+    (λ j. text_in (cond (itself x.item j) (Some x) (first_named (λ x. x.item) x.item (own ++ more))) ∷ passed_over x (own ++ more) ns a j)
+    ∙ ap (λ z. x.text ∷ z) (texts own more left (IsDistinct-tail bytes_eq x.item ns d))
 
 -- ---- the setting changes no docs
 
@@ -99,14 +121,26 @@ module _ (c : Asking) (all : List ℕ) (d : Data) (r : Report) (s : IsSchema all
       let read : document_of c.setting (value_of d) ≡ Some converted = on.emission.is_read.read in
       let is : under c.setting document ≡ converted = some_same (under c.setting document) converted (sym (ap (option_map (under c.setting)) e) ∙ sym (settings_are_kept c.setting (value_of d)) ∙ read) in
       let own = of_definitions document in
+      let items = items_of r in
       let told = docs_have_items_names c.texts converted c.depth most_levels in
       let same : doc_items own ≡ doc_names converted = ap doc_items (sym (docs_under c.setting document (names_in document) [] (names_in document))) ∙ ap doc_names is in
-      let named : doc_items own ++ told.0 ≡ names (items_of r) = ap (λ z. z ++ told.0) same ∙ told.1 ∙ sym (ap (λ (k : Emission). names k.items) on.emission.emission) in
-      let p = placed own (root_docs (item_in (root_of r)) document.root) told.0 (items_of r) named in
+      let first : doc_items own ++ told.0 ≡ item_names c.texts converted c.depth most_levels = ap (λ z. z ++ told.0) same ∙ told.1 in
+      let named : doc_items own ++ told.0 ≡ names items = first ∙ sym (ap (λ (k : Emission). names k.items) on.emission.emission) in
+      let differ : IsDistinct bytes_eq (doc_items own ++ told.0) = subst (IsDistinct bytes_eq) (sym first) (item_names_differ c.texts converted c.depth most_levels) in
+      let others = left_items (doc_items own) told.0 items named in
+      let root = root_docs (item_in (root_of r)) document.root in
+      let below = below_docs document items (ty r.root) in
       record {
-        others = p.others;
-        named = ap (λ z. doc_items own ++ z) (sym p.same) ∙ named;
-        stand = ap (λ o. docs_above (items_of r) (docs_in o (ty r.root))) e ∙ p.stand;
+        others = others.0;
+        named = ap (λ z. doc_items own ++ z) (sym others.1) ∙ named;
+        differ = subst (λ z. IsDistinct bytes_eq (doc_items own ++ z)) others.1 differ;
+        stand =
+            ap (λ o. docs_above items (docs_in o items (ty r.root))) e
+            ∙ above_in_order (told_docs document items (ty r.root)) items
+            ∙ ap (map (text_for (told_docs document items (ty r.root)))) (sym named)
+            ∙ ap (λ ds. map (text_for ds) (doc_items own ++ told.0)) (append_assoc own root below)
+            ∙ texts own (root ++ below) told.0 differ
+            ∙ ap (λ z. map (λ x. x.text) own ++ z) (ap (map (text_for (root ++ below))) others.1 ∙ by_names (root ++ below) others.0);
       }
 
 pub pages_keep_items : PagesKeepItems

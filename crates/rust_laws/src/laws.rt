@@ -7,8 +7,8 @@ pub fn pages_keep_items()
     ensures { PagesKeepItems }
 {}
 
-/// The first items on a page are those of the definitions, in their order, and above each stands what the schema of its definition says. Of the others only the root's has
-/// such a text: what the root says.
+/// The first items on a page are those of the definitions, in their order, and above each stands what the schema of its definition says. Above each of the others, which have other names, stands
+/// the first that is said of an item of its name by the root and by what stands below the definitions and the root.
 pub fn docs_stand_at_their_items()
     ensures { DocsStandAtTheirItems }
 {}

@@ -16,7 +16,7 @@ use Rattle.item_docs.specs.Docs.{docs_in}
 
 -- what the document says of its items; the setting changes no title or description
 abbrev pub docs_for : Data → Report → List Doc
-docs_for d r = docs_in (document_of Strict (value_of d)) (ty_view r.root)
+docs_for d r = docs_in (document_of Strict (value_of d)) (items_of r) (ty_view r.root)
 
 -- the version, the number of items and the notes as a comment, and the module with the items and what is said of them
 abbrev pub rust_page : Data → Report → List ℕ

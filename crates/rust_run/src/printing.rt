@@ -7,8 +7,10 @@ ghost use Rattle.schema_words.specs.Outcome.{tells_line};
 ghost use Rattle.typify_run.specs.Page.{head};
 ghost use Rattle.typify_run.specs.Headline.{items_of};
 ghost use Rattle.tidy_texts.specs.Comment.{comment};
+ghost use Rattle.schema_types.specs.DocumentView.{document_view};
 ghost use Rattle.module_texts.specs.Docs.{doc_view};
 ghost use Rattle.module_texts.specs.Module.{module_text};
+ghost use Rattle.item_docs.specs.Docs.{docs_of as docs_of_document};
 ghost use Rattle.rust_run.specs.Prints.{Prints, docs_for, rust_page};
 
 use item_docs::item_docs;
@@ -16,6 +18,7 @@ use module_texts::{ItemDoc, push_module};
 use schema_defs::Setting;
 use schema_reading::document;
 use schema_tree::Fault;
+use schema_types::Document;
 use schema_words::{Answer, Answering};
 use serde_json::Value;
 use std::alloc::{AllocError, Global};
@@ -23,7 +26,7 @@ use tidy_texts::push_comment;
 use typify_run::{Report, head_text};
 
 /// What `rust` answers of a report: always a page, a Rust module with the items. Its first comment has the version, the number of items, the notes, and
-/// the root's type. The items of the definitions and of the root have the titles and descriptions of their schemas as doc comments.
+/// the root's type. Items have the titles and descriptions of their schemas as doc comments, as far as it is sure of which schema an item is.
 #[derive(Clone, Copy)]
 pub struct RustPrinting;
 
@@ -35,13 +38,20 @@ fn push_head(out: &mut String, alloc: Global, report: &Report) -> Result<(), All
     Ok(())
 }
 
+fn docs_of(alloc: Global, document: &Document, report: &Report) -> Result<Vec<ItemDoc>, AllocError>
+    ensures { IfOk result (λ v. map doc_view v.items ≡ docs_of_document (document_view document.now) (items_of report.now) (ty_view report.now.root)) }
+{
+    let docs = item_docs(alloc, document, &report.items, &report.root)?;
+    Ok(docs)
+}
+
 // What the schema says of the items.
 fn docs_for(alloc: Global, schema: &Value, report: &Report) -> Result<Vec<ItemDoc>, AllocError>
     ensures { IfOk result (λ v. map doc_view v.items ≡ docs_for (view schema.now) report.now) }
 {
     let found = document(alloc, schema, Setting::Strict)?;
     match &found {
-        Some(document) => item_docs(alloc, document, &report.root),
+        Some(document) => docs_of(alloc, document, report),
         None => Ok(Vec::new(alloc)),
     }
 }
