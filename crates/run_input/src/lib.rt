@@ -21,6 +21,13 @@ pub struct InputParts<'a> {
     pub values: &'a Vec<Value>,
 }
 
+/// The same, taken out of the input.
+#[derive(Drop)]
+pub struct OwnedParts {
+    pub schema: Value,
+    pub values: Vec<Value>,
+}
+
 /// Why bytes give no value.
 #[derive(Clone, Copy, PartialEq, Eq, Debug)]
 pub enum InputError {
@@ -39,7 +46,28 @@ pub fn input_value(alloc: Global, bytes: &[u8]) -> Result<Value, InputError>
     let Ok(rewritten) = whole_numbers(alloc, bytes) else {
         return Err(InputError::Memory);
     };
-    match Value::from_slice(alloc, &rewritten) {
+    written_value(alloc, &rewritten)
+}
+
+/// The same of bytes that are given back before the value is read.
+pub fn owned_value(alloc: Global, bytes: Vec<u8>) -> Result<Value, InputError>
+    ensures value { IfOk result (λ v. IsUtf8 (whole bytes.items) × (read_text (whole bytes.items) ≡ Some (view v))) }
+    ensures not_json { IfErr result (λ e. e ≡ InputError.NotJson → IsUtf8 (whole bytes.items) → read_text (whole bytes.items) ≡ None) }
+    ensures no_input { IfErr result (λ e. e ≡ InputError.NotJson → IsNoInput bytes.items) }
+{
+    let Ok(rewritten) = whole_numbers(alloc, &bytes) else {
+        return Err(InputError::Memory);
+    };
+    drop(bytes);
+    written_value(alloc, &rewritten)
+}
+
+// The JSON value of bytes in which the numbers are written so.
+fn written_value(alloc: Global, bytes: &[u8]) -> Result<Value, InputError>
+    ensures value { IfOk result (λ v. IsUtf8 bytes.now × (read_text bytes.now ≡ Some (view v))) }
+    ensures not_json { IfErr result (λ e. e ≡ InputError.NotJson → IsUtf8 bytes.now → read_text bytes.now ≡ None) }
+{
+    match Value::from_slice(alloc, bytes) {
         Ok(value) => Ok(value),
         Err(error) if error.is_memory() => Err(InputError::Memory),
         Err(_) => Err(InputError::NotJson),
@@ -65,6 +93,29 @@ pub fn input_parts(value: &Value) -> Option<InputParts<'_>>
     }
     match values {
         Value::Array(values) => Some(InputParts { schema, values }),
+        _ => None,
+    }
+}
+
+/// The same of an input that is taken apart.
+pub fn owned_parts(value: Value) -> Option<OwnedParts>
+    ensures { option_map (λ p. record { schema = view p.schema; values = items_view p.values.items }) result ≡ parts_of (view value) }
+{
+    let Value::Object(members) = value else {
+        return None;
+    };
+    let mut entries = members.into_iter();
+    let Some((first, schema)) = entries.next() else {
+        return None;
+    };
+    let Some((second, values)) = entries.next() else {
+        return None;
+    };
+    if entries.next().is_some() || first.as_str() != "schema" || second.as_str() != "values" {
+        return None;
+    }
+    match values {
+        Value::Array(values) => Some(OwnedParts { schema, values }),
         _ => None,
     }
 }

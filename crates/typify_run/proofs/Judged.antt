@@ -1,5 +1,5 @@
 -- Verdicts, one value after another: what they say of the report's containers, and that they can be printed.
-use Rattle.std.proofs.Common.{◌≡◌, ℕ, zero, suc, ◌+◌, ◌<◌, List, [], ◌∷◌, ◌++◌, map, take, length, get_or, Bool, true, false, ◌&&◌, refl, ap, sym, subst, ◌∙◌, arith}
+use Rattle.std.proofs.Common.{◌≡◌, ℕ, zero, suc, ◌+◌, ◌<◌, List, [], ◌∷◌, ◌++◌, map, take, length, get_or, append-nil, Bool, true, false, ◌&&◌, refl, ap, sym, subst, ◌∙◌, arith}
 use Rattle.std.specs.List.{list_all}
 use Rattle.std.proofs.lemmas.List.{take_more, map-append}
 use Rattle.serde_json.specs.Data.{Data}
@@ -40,6 +40,12 @@ verdicts_more ms cs r t f g xs i x ys y h k m =
     let ends = map-append g ys (y ∷ []) in
     subst (λ ds. AreVerdicts ms cs r t ds (map g (ys ++ y ∷ []))) (sym front)
     (subst (λ vs. AreVerdicts ms cs r t (map f (take i xs) ++ f (get_or xs i x) ∷ []) vs) (sym ends) (verdicts_push ms cs r t (map f (take i xs)) (map g ys) (f (get_or xs i x)) (g y) k m))
+
+-- no value is left
+pub none_left : {X Y : Type 0} → (ms : List ContainerModel) (cs : ConversionsD) (r : Relations) (t : TypeModel) (f : X → Data) (g : Y → VerdictD) (ds : List Data) (ys : List Y) (left : List X) → length left ≡ 0
+    → ((vs : List VerdictD) → AreVerdicts ms cs r t (map f left) vs → AreVerdicts ms cs r t ds (map g ys ++ vs)) → AreVerdicts ms cs r t ds (map g ys)
+none_left ms cs r t f g ds ys [] e h = subst (λ vs. AreVerdicts ms cs r t ds vs) (append-nil (map g ys)) (h [] tt)
+none_left ms cs r t f g ds ys (x ∷ xs) e h = absurd (omega (arith, e))
 
 pub i64_at : {X : Type 0} → (f : X → Data) (xs : List X) (i : ℕ) (x : X) → are_i64 (map f xs) ≡ true → i < length xs → holds_i64_alone (value_of (f (get_or xs i x))) ≡ true
 i64_at f [] i x h k = absurd (omega (arith, k))

@@ -7,3 +7,4 @@ pub mod Laws
 pub mod Examine
 pub mod Outcome
 pub mod PlainInputs
+pub mod Values

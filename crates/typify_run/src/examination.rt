@@ -17,17 +17,19 @@ ghost use Rattle.typify_run.specs.Verdicts.{AreVerdicts, IsUnjudged};
 ghost use Rattle.typify_run.specs.Examine.{as_it_stands, CanJudge, IsEmission, IsMadeOf, IsRefusal, IsUnreported, SettlesOnce, is_examined};
 ghost use Rattle.typify_run.specs.Headline.{IsReportOf, read_of};
 ghost use Rattle.typify_run.specs.Page.{ArePrintable};
+ghost use Rattle.typify_run.specs.Values.{seen};
 ghost use Rattle.typify_run.specs.PlainInputs.{IsPlainInput, IsRefusedPlainly};
 ghost use Rattle.derive_model.specs.VerdictView.{verdict_view};
 
 use crate::judging::{check_numbers, verdicts};
 use crate::report::Report;
+use crate::values::{Judged, check_judged};
 use attr_parts::NoCase;
 use convert_document::converted;
 use derive_model::{Module, Verdict};
 use distinct_names::names_differ;
 use rising_names::names_of_each_rise;
-use schema_tree::{Conversions, Document, Fault, Setting, Texts, check_values};
+use schema_tree::{Conversions, Document, Fault, Setting, Texts};
 use serde_json::Value;
 use std::alloc::Global;
 use syntax_trees::{DeriveInput, Ty};
@@ -38,13 +40,13 @@ fn judged<T: Texts>(
     items: &[DeriveInput],
     conversions: &Conversions,
     root: &Ty,
-    values: &[Value],
+    values: Judged<'_>,
     texts: &mut T,
 ) -> Result<Vec<Verdict>, Fault>
-    requires numbers { are_i64 (map view values.now) ≡ true }
+    requires numbers { are_i64 (seen values) ≡ true }
     requires sound { defaults_are_sound (read_of as_it_stands (map item_view items.now)) (conversions_view conversions.now) (T.relations texts.old) ≡ true }
     ensures sound { OnOk result (AreSound (read_of as_it_stands (map item_view items.now)) (conversions_view conversions.now) (T.relations texts.old)) }
-    ensures verdicts { IfOk result (λ v. AreVerdicts (read_of as_it_stands (map item_view items.now)) (conversions_view conversions.now) (T.relations texts.old) (type_of (ty root.now)) (map view values.now) (map verdict_view v.items)) }
+    ensures verdicts { IfOk result (λ v. AreVerdicts (read_of as_it_stands (map item_view items.now)) (conversions_view conversions.now) (T.relations texts.old) (type_of (ty root.now)) (seen values.entry) (map verdict_view v.items)) }
     ensures refused { IfErr result (λ f. IsUnjudged (T.faults texts.old) (T.faults texts.new) (fault_view f)) }
     ensures keeps { T.relations texts.new ≡ T.relations texts.old }
     ensures counts { T.faults texts.old ≤ T.faults texts.new }
@@ -71,12 +73,12 @@ fn report_of<T: Texts>(
     alloc: Global,
     document: &Document,
     depth: u32,
-    values: &[Value],
+    values: Judged<'_>,
     texts: &mut T,
 ) -> Result<Report, Fault>
     requires read { WasRead (document_seen document.now) }
-    requires numbers { are_i64 (map view values.now) ≡ true }
-    ensures report { IfOk result (λ r. IsMadeOf (T.relations texts.old) (document_seen document.now) depth (map view values.now) r) }
+    requires numbers { are_i64 (seen values) ≡ true }
+    ensures report { IfOk result (λ r. IsMadeOf (T.relations texts.old) (document_seen document.now) depth (seen values.entry) r) }
     ensures refused { IfErr result (λ f. IsUnreported (T.relations texts.old) (document_seen document.now) depth (T.faults texts.old) (T.faults texts.new) (fault_view f)) }
     ensures keeps { T.relations texts.new ≡ T.relations texts.old }
     ensures counts { T.faults texts.old ≤ T.faults texts.new }
@@ -133,7 +135,6 @@ pub fn examine<T: Texts>(
 /// its default, and that isn't read (`InvalidValue`).
 /// `Texts` comes where the judge of texts failed: at the schema that asked it, or at the root where it failed at a value. Fails with `Memory`
 /// where memory runs out. A document of plain rows alone (`IsPlain`) leaves no note, and is refused by these two alone.
-#[tactic(auto, using(crate::proofs::Causes::wide_refused, crate::proofs::Causes::unread_refused, crate::proofs::Causes::unreported_refused))]
 pub fn examine_with<T: Texts>(
     alloc: Global,
     document: &Value,
@@ -156,8 +157,35 @@ pub fn examine_with<T: Texts>(
     ensures keeps { T.relations texts.new ≡ T.relations texts.old }
     ensures counts { T.faults texts.old ≤ T.faults texts.new }
 {
+    examine_values(alloc, document, depth, Judged::Lent(values), texts, setting)
+}
+
+/// The same of values that are lent or handed over.
+#[tactic(auto, using(crate::proofs::Causes::wide_refused, crate::proofs::Causes::unread_refused, crate::proofs::Causes::unreported_refused))]
+pub(crate) fn examine_values<T: Texts>(
+    alloc: Global,
+    document: &Value,
+    depth: u32,
+    values: Judged<'_>,
+    texts: &mut T,
+    setting: Setting,
+) -> Result<Report, Fault>
+    requires { 1 ≤ depth }
+    ensures report { IfOk result (λ r. IsReportOf setting (T.relations texts.old) (value_of (view document.now)) (seen values.entry) r) }
+    ensures emission { IfOk result (λ r. IsEmission setting (T.relations texts.old) depth (value_of (view document.now)) r) }
+    ensures printable { IfOk result (λ r. ArePrintable (map verdict_view r.verdicts.items)) }
+    ensures judges { IfOk result (λ r. CanJudge (T.relations texts.old) r) }
+    ensures once { IfOk result (λ r. SettlesOnce (T.relations texts.old) r) }
+    ensures examined { OnOk result (is_examined setting (T.relations texts.old) depth (value_of (view document.now)) (seen values.entry) ≡ true) }
+    ensures accepted { OnOk result (IsAccepted (value_of (view document.now))) }
+    ensures refused { IfErr result (λ f. IsRefusal setting (T.relations texts.old) depth (T.faults texts.old) (T.faults texts.new) (value_of (view document.now)) (seen values.entry) (fault_view f)) }
+    ensures plain_unnoted { IfOk result (λ r. IsPlainInput setting depth (value_of (view document.now)) (seen values.entry) → r.notes.items ≡ []) }
+    ensures plain_refused { IfErr result (λ f. IsRefusedPlainly setting (T.relations texts.old) depth (T.faults texts.old) (T.faults texts.new) (value_of (view document.now)) (seen values.entry) (fault_view f)) }
+    ensures keeps { T.relations texts.new ≡ T.relations texts.old }
+    ensures counts { T.faults texts.old ≤ T.faults texts.new }
+{
     names_differ(document);
-    check_values(alloc, values)?;
+    check_judged(alloc, &values)?;
     let read = Document::read_with(alloc, document, setting)?;
     let report = report_of(alloc, &read, depth, values, texts)?;
     Ok(report)

@@ -11,8 +11,10 @@ ghost use Rattle.reading_defs.specs.Proper.{has_json_numbers};
 ghost use Rattle.derive_model.specs.Judging.{AreSound, IsVerdict};
 ghost use Rattle.derive_model.specs.ModuleView.{models_in, conversions_in};
 ghost use Rattle.derive_model.specs.VerdictView.{verdict_view};
+ghost use Rattle.typify_run.specs.Values.{seen};
 ghost use Rattle.typify_run.specs.Verdicts.{AreVerdicts, IsUnjudged};
 
+use crate::values::Judged;
 use derive_model::{JudgeError, Module, Verdict};
 use schema_tree::{Fault, Location, Texts};
 use serde_json::Value;
@@ -69,8 +71,8 @@ pub(crate) fn check_numbers(models: &Module<'_>) -> Result<(), Fault>
     }
 }
 
-/// The verdicts on values, in order.
-pub(crate) fn verdicts<T: Texts>(
+// The verdicts on values, in order.
+fn lent_verdicts<T: Texts>(
     alloc: Global,
     models: &Module<'_>,
     root: &Ty,
@@ -90,4 +92,48 @@ pub(crate) fn verdicts<T: Texts>(
         push_verdict(&mut verdicts, told)?;
     }
     Ok(verdicts)
+}
+
+// The same of values of which each is dropped once it was judged.
+fn given_verdicts<T: Texts>(
+    alloc: Global,
+    models: &Module<'_>,
+    root: &Ty,
+    values: Vec<Value>,
+    texts: &mut T,
+) -> Result<Vec<Verdict>, Fault>
+    requires numbers { are_i64 (map view values.items) ≡ true }
+    requires sound { AreSound (models_in models.now) (conversions_in models.now) (T.relations texts.old) }
+    ensures verdicts { IfOk result (λ v. AreVerdicts (models_in models.now) (conversions_in models.now) (T.relations texts.old) (type_of (ty root.now)) (map view values.items) (map verdict_view v.items)) }
+    ensures refused { IfErr result (λ f. IsUnjudged (T.faults texts.old) (T.faults texts.new) (fault_view f)) }
+    ensures keeps { T.relations texts.new ≡ T.relations texts.old }
+    ensures counts { T.faults texts.old ≤ T.faults texts.new }
+{
+    let mut verdicts = Vec::new(alloc);
+    for value in values {
+        let told = judge_value(alloc, models, root, &value, texts)?;
+        push_verdict(&mut verdicts, told)?;
+    }
+    Ok(verdicts)
+}
+
+/// The verdicts on values, in order.
+pub(crate) fn verdicts<T: Texts>(
+    alloc: Global,
+    models: &Module<'_>,
+    root: &Ty,
+    values: Judged<'_>,
+    texts: &mut T,
+) -> Result<Vec<Verdict>, Fault>
+    requires numbers { are_i64 (seen values) ≡ true }
+    requires sound { AreSound (models_in models.now) (conversions_in models.now) (T.relations texts.old) }
+    ensures verdicts { IfOk result (λ v. AreVerdicts (models_in models.now) (conversions_in models.now) (T.relations texts.old) (type_of (ty root.now)) (seen values.entry) (map verdict_view v.items)) }
+    ensures refused { IfErr result (λ f. IsUnjudged (T.faults texts.old) (T.faults texts.new) (fault_view f)) }
+    ensures keeps { T.relations texts.new ≡ T.relations texts.old }
+    ensures counts { T.faults texts.old ≤ T.faults texts.new }
+{
+    match values {
+        Judged::Lent(values) => lent_verdicts(alloc, models, root, values, texts),
+        Judged::Given(values) => given_verdicts(alloc, models, root, values, texts),
+    }
 }

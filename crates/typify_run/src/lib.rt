@@ -7,6 +7,7 @@ pub mod laws;
 mod outcome;
 mod report;
 mod top;
+mod values;
 mod words;
 
 pub use convert_document::{Note, NoteKind, Way};

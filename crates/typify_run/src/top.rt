@@ -12,11 +12,12 @@ ghost use Rattle.typify_run.specs.PlainInputs.{EndsPlainly, IsFaultless, IsPlain
 ghost use Rattle.typify_run.specs.Call.{Call, call, call_of};
 ghost use Rattle.typify_run.specs.Words.{depth_said};
 
-use crate::examination::examine_with;
+use crate::examination::examine_values;
 use crate::outcome::Outcome;
 use crate::report::Report;
+use crate::values::Judged;
 use crate::words::{Asked, Command, command_of_words, depth_of_words, setting_of_words};
-use run_input::{InputError, LIMIT, input_parts, input_value};
+use run_input::{InputError, LIMIT, OwnedParts, owned_parts, owned_value};
 use run_io::{InputFault, Sink, SinkFault, Source, put, read_input};
 use schema_tree::{Fault, Texts};
 use serde_json::Value;
@@ -80,12 +81,12 @@ fn print_fault<K: Sink>(alloc: Global, fault: Fault, sink: &mut K) -> Outcome
 }
 
 // The values that are examined: where items are asked for, none.
-fn examined<'a>(command: Command, values: &'a [Value]) -> &'a [Value]
-    ensures { map view result.now ≡ examined_of command (map view values.now) }
+fn examined(alloc: Global, command: Command, values: Vec<Value>) -> Vec<Value>
+    ensures { map view result.items ≡ examined_of command (map view values.items) }
 {
     match command {
         Command::Check => values,
-        Command::Items => &[],
+        Command::Items => Vec::new(alloc),
     }
 }
 
@@ -94,18 +95,26 @@ fn run_parts<K: Sink, T: Texts>(
     alloc: Global,
     asked: Asked,
     schema: &Value,
-    values: &[Value],
+    values: Vec<Value>,
     sink: &mut K,
     texts: &mut T,
 ) -> Outcome
     requires { 1 ≤ asked.depth }
-    ensures answer { (parts : Parts) → parts.schema ≡ view schema.now → values_of asked.command parts ≡ map view values.now → Answers (call asked (T.relations texts.old) (T.faults texts.old) (T.faults texts.new)) parts (K.written sink.old) (K.written sink.new) result.status result.report result.fault }
+    ensures answer { (parts : Parts) → parts.schema ≡ view schema.now → values_of asked.command parts ≡ map view values.items → Answers (call asked (T.relations texts.old) (T.faults texts.old) (T.faults texts.new)) parts (K.written sink.old) (K.written sink.new) result.status result.report result.fault }
     ensures write_fault { result.status ≡ 5 → Rises (K.faults sink.old) (K.faults sink.new) }
     ensures kept { K.faults sink.old ≤ K.faults sink.new }
     ensures keeps { T.relations texts.new ≡ T.relations texts.old }
     ensures counts { T.faults texts.old ≤ T.faults texts.new }
 {
-    match examine_with(alloc, schema, asked.depth, values, texts, asked.setting) {
+    let examined = examine_values(
+        alloc,
+        schema,
+        asked.depth,
+        Judged::Given(values),
+        texts,
+        asked.setting,
+    );
+    match examined {
         Ok(report) => print_report(alloc, asked, report, sink),
         Err(fault) => {
             if fault.is_memory() {
@@ -121,32 +130,28 @@ fn run_parts<K: Sink, T: Texts>(
 fn run_bytes<K: Sink, T: Texts>(
     alloc: Global,
     asked: Asked,
-    bytes: &[u8],
+    bytes: Vec<u8>,
     sink: &mut K,
     texts: &mut T,
 ) -> Outcome
     requires depth { 1 ≤ asked.depth }
-    requires short { length bytes.now ≤ limit }
-    ensures ends { Ends (call asked (T.relations texts.old) (T.faults texts.old) (T.faults texts.new)) bytes.now (K.written sink.old) (K.written sink.new) result.status result.report result.fault }
+    requires short { length bytes.items ≤ limit }
+    ensures ends { Ends (call asked (T.relations texts.old) (T.faults texts.old) (T.faults texts.new)) bytes.items (K.written sink.old) (K.written sink.new) result.status result.report result.fault }
     ensures write_fault { result.status ≡ 5 → Rises (K.faults sink.old) (K.faults sink.new) }
     ensures kept { K.faults sink.old ≤ K.faults sink.new }
     ensures keeps { T.relations texts.new ≡ T.relations texts.old }
     ensures counts { T.faults texts.old ≤ T.faults texts.new }
 {
-    let value = match input_value(alloc, bytes) {
+    let value = match owned_value(alloc, bytes) {
         Ok(value) => value,
         Err(InputError::Memory) => return Outcome::bare(6),
         Err(InputError::NotJson) => return Outcome::bare(3),
     };
-    match input_parts(&value) {
-        Some(parts) => run_parts(
-            alloc,
-            asked,
-            parts.schema,
-            examined(asked.command, parts.values),
-            sink,
-            texts,
-        ),
+    match owned_parts(value) {
+        Some(OwnedParts { schema, values }) => {
+            let values = examined(alloc, asked.command, values);
+            run_parts(alloc, asked, &schema, values, sink, texts)
+        }
         None => Outcome::bare(3),
     }
 }
@@ -173,7 +178,7 @@ fn run_command<S: Source, K: Sink, T: Texts>(
     ensures counts { T.faults texts.old ≤ T.faults texts.new }
 {
     match read_input(alloc, source, LIMIT) {
-        Ok(bytes) => run_bytes(alloc, asked, &bytes, sink, texts),
+        Ok(bytes) => run_bytes(alloc, asked, bytes, sink, texts),
         Err(InputFault::Memory) => Outcome::bare(6),
         Err(InputFault::Failed) => Outcome::bare(4),
         Err(InputFault::TooLong) => Outcome::bare(3),

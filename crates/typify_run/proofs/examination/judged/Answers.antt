@@ -10,6 +10,7 @@ use Rattle.reading_defs.specs.Proper.{has_json_numbers}
 use Rattle.schema_tree.specs.Conversions.{conversions_view}
 use Rattle.derive_model.specs.ModuleView.{models_in, conversions_in}
 use Rattle.derive_model.specs.VerdictView.{verdict_view}
+use Rattle.typify_run.specs.Values.{seen}
 use Rattle.typify_run.proofs.Judged.{verdicts_alike}
 use Rattle.typify_run.proofs.examination.judged.Goals as goal
 
@@ -21,14 +22,14 @@ verdicts-requires-clause-sound g c =
       sound = (λ i. defaults_are_sound (c.in-Ok.ensures.models i) (c.in-Ok.ensures.conversions i) r) ∙ c.requires.sound;
     }
 
-pub returns-in-Ok-clause-sound : goal.returns-in-Ok-clause-sound
-returns-in-Ok-clause-sound g c = record {
+pub returns-in_ok-verdicts-in-Ok-clause-sound : goal.returns-in_ok-verdicts-in-Ok-clause-sound
+returns-in_ok-verdicts-in-Ok-clause-sound g c = record {
   numbers = ap (λ (k : ConversionsD). list_all has_json_numbers k.defaults) (sym c.in-Ok.ensures.conversions) ∙ c.in_ok-check_numbers-in-Ok.ensures.numbers;
   sound = c.requires.sound;
 }
 
-pub returns-in-Ok-clause-verdicts : goal.returns-in-Ok-clause-verdicts
-returns-in-Ok-clause-verdicts g c =
+pub returns-in_ok-verdicts-in-Ok-clause-verdicts : goal.returns-in_ok-verdicts-in-Ok-clause-verdicts
+returns-in_ok-verdicts-in-Ok-clause-verdicts g c =
     let m = c.in-Ok.models in
-    verdicts_alike (models_in m) _ (conversions_in m) (conversions_view c.args.conversions.now) (g.T.Texts.relations c.args.texts.now) (type_of (ty c.args.root.now)) (map view c.args.values.now) (map verdict_view c.in_ok-verdicts-in-Ok.verdicts.items)
+    verdicts_alike (models_in m) _ (conversions_in m) (conversions_view c.args.conversions.now) (g.T.Texts.relations c.args.texts.now) (type_of (ty c.args.root.now)) (seen c.args.values) (map verdict_view c.in_ok-verdicts-in-Ok.verdicts.items)
     c.in-Ok.ensures.models c.in-Ok.ensures.conversions c.in_ok-verdicts-in-Ok.ensures.verdicts

@@ -12,6 +12,7 @@ use Rattle.reading_defs.specs.Laws.{defaults_are_sound}
 use Rattle.convert_document.specs.Emitted.{emitted_view}
 use Rattle.derive_model.specs.Judging.{AreSound}
 use Rattle.derive_model.specs.VerdictView.{verdict_view}
+use Rattle.typify_run.specs.Values.{seen}
 use Rattle.typify_run.specs.Headline.{read_of}
 use Rattle.typify_run.specs.Examine.{as_it_stands, IsUnreported}
 use Rattle.typify_run.specs.Verdicts.{AreVerdicts}
@@ -36,7 +37,7 @@ returns-clause-report g c =
     let r = g.T.Texts.relations c.args.texts.now in
     let cs = conversions_view e.table in
     let t = type_of (ty e.root) in
-    let values = map view c.args.values.now in
+    let values = seen c.args.values in
     let verdicts = map verdict_view c.in_ok-verdicts.verdicts.items in
     let told = subst (λ (k : Relations). AreVerdicts (read_of as_it_stands (map item_view c.deref.result.now)) cs k t values verdicts) is.keeps c.in_ok-verdicts.ensures.verdicts in
     record {

@@ -9,9 +9,8 @@ use Rattle.typify_run.proofs.top.run_bytes.Goals as goal
 
 pub returns-in-Some-clause-ends : goal.returns-in-Some-clause-ends
 returns-in-Some-clause-ends g c =
-    let parts : Parts = record { schema = view c.in-Some.parts.schema.now; values = items_view c.in-Some.parts.values.now.items } in
-    let listed : data_of parts.values ≡ map view c.deref.result.now = data_of_items (map view c.in-Some.parts.values.now.items) ∙ ap (map view) (sym c.deref.ensures.value) in
-    let values : values_of c.args.asked.command parts ≡ map view c.examined.result.now = ap (examined c.args.asked.command) listed ∙ sym c.examined.ensures in
+    let parts : Parts = record { schema = view c.in-Some.field-0.schema; values = items_view c.in-Some.field-0.values.items } in
+    let values : values_of c.args.asked.command parts ≡ map view c.examined-values.result.items = ap (examined c.args.asked.command) (data_of_items (map view c.in-Some.field-0.values.items)) ∙ sym c.examined-values.ensures in
     inr (inr (
       parts,
       record { short = c.requires.short; utf8 = c.in-Ok.ensures.value.0; read = (view c.in-Ok.value, c.in-Ok.ensures.value.1, sym c.in-Some.ensures) },
@@ -22,5 +21,5 @@ pub returns-in-Err-NotJson-clause-ends : goal.returns-in-Err-NotJson-clause-ends
 returns-in-Err-NotJson-clause-ends g c =
     let old = g.K.Sink.written c.args.sink.now in
     let asked = call c.args.asked (g.T.Texts.relations c.args.texts.now) (g.T.Texts.faults c.args.texts.now) (g.T.Texts.faults c.args.texts.now) in
-    subst (λ (o : Outcome). Ends asked c.args.bytes.now old old o.status o.report o.fault) (sym c.bare-in-Err-NotJson.ensures)
+    subst (λ (o : Outcome). Ends asked c.args.bytes.items old old o.status o.report o.fault) (sym c.bare-in-Err-NotJson.ensures)
     (inl (refl, c.in-Err-NotJson.ensures.no_input c.in-Err-NotJson.field-0-is, (refl, refl, refl)))

@@ -12,7 +12,7 @@ use Rattle.derive_model.specs.VerdictView.{verdict_view}
 use Rattle.derive_model.specs.declared.verdict.Verdict.{Verdict}
 use Rattle.typify_run.specs.Verdicts.{AreVerdicts}
 use Rattle.typify_run.proofs.Judged.{verdicts_more, i64_at}
-use Rattle.typify_run.proofs.judging.verdicts.Goals as goal
+use Rattle.typify_run.proofs.judging.lent_verdicts.Goals as goal
 
 pub judge_value-requires-clause-numbers : goal.judge_value-requires-clause-numbers
 judge_value-requires-clause-numbers g c =

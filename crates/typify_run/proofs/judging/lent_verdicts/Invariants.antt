@@ -5,7 +5,7 @@ use Rattle.type_spellings.specs.Types.{type_of}
 use Rattle.derive_model.specs.ModuleView.{models_in, conversions_in}
 use Rattle.derive_model.specs.VerdictView.{verdict_view}
 use Rattle.typify_run.specs.Verdicts.{AreVerdicts}
-use Rattle.typify_run.proofs.judging.verdicts.Given as goal
+use Rattle.typify_run.proofs.judging.lent_verdicts.Given as goal
 
 abbrev pub invariant-loop-value : goal.invariant-loop-value
 invariant-loop-value g l = record {
