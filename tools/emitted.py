@@ -28,9 +28,6 @@ class Field:
         self.is_rest = "flatten" in metas
         self.skips = "skip_serializing_if" in metas
 
-    def facts(self):
-        return (self.name, self.type, tuple(self.metas.items()))
-
 
 class Variant:
     """Its style is `unit`, `fields` (a list of Field) or `places` (a list of types)."""
@@ -38,10 +35,6 @@ class Variant:
     def __init__(self, name, style, parts, metas):
         self.name, self.style, self.parts, self.metas = name, style, parts, metas
         self.json = metas.get("rename", name)
-
-    def facts(self):
-        parts = tuple(part.facts() for part in self.parts) if self.style == "fields" else tuple(self.parts)
-        return (self.name, self.style, parts, tuple(self.metas.items()))
 
 
 class Item:
@@ -52,11 +45,6 @@ class Item:
         self.is_closed = "deny_unknown_fields" in metas
         # the type that `try_from` names
         self.inner = Parser(metas["try_from"]).type() if "try_from" in metas else None
-
-    def facts(self):
-        parts = tuple(self.parts) if self.kind == "places" else tuple(part.facts() for part in self.parts)
-        metas = tuple(pair for pair in self.metas.items() if pair[0] != "try_from")
-        return (self.name, self.kind, parts, metas, self.inner)
 
     def types(self):
         if self.kind == "places":
@@ -209,29 +197,4 @@ def all_types(ty):
     found = [ty]
     for one in inner_types(ty):
         found += all_types(one)
-    return found
-
-
-def renamed(ty, names):
-    if ty[0] == "tuple":
-        return ("tuple", tuple(renamed(one, names) for one in ty[1]))
-    if ty[0] == "array":
-        return ("array", renamed(ty[1], names), ty[2])
-    if ty[0] == "path":
-        return ("path", ty[1], tuple(renamed(one, names) for one in ty[2]))
-    return ("name", names.get(ty[1], ty[1]))
-
-
-def renamed_item(item, names):
-    """The item with other names of items, in itself and in its types."""
-    def field(one):
-        return Field(one.name, renamed(one.type, names), one.metas)
-
-    def variant(one):
-        parts = [field(part) for part in one.parts] if one.style == "fields" else [renamed(part, names) for part in one.parts]
-        return Variant(one.name, one.style, parts, one.metas)
-
-    shape = {"enum": variant, "fields": field, "places": lambda one: renamed(one, names)}[item.kind]
-    found = Item(names.get(item.name, item.name), item.kind, [shape(one) for one in item.parts], item.metas, item.text)
-    found.inner = renamed(item.inner, names) if item.inner else None
     return found

@@ -56,7 +56,7 @@ fn branching_on<'d>(
     })
 }
 
-/// Whether no two members take one value. It takes no memory.
+/// Whether no two members take one value.
 pub fn is_exclusive(document: &Document, schemas: &[Schema], members: &[Member<'_>]) -> bool
     requires { schemas_of (map member_view members.now) ≡ schemas_view schemas.now }
     ensures { result ≡ exclusive_of (document_seen document.now) (schemas_of (map member_view members.now)) }

@@ -185,8 +185,9 @@ comes of it. DEPTH and --null-absent are those of `check`.
 
 Where it compiles there are the number of items, and the line of each note with a line `means`. Where it doesn't there is
 the line of the first fault, as `check` prints it, then lines for what it carries (`keyword`, `reference`, `step`, `value`,
-`places` or `kind`), a line `rule` and a line `change`; then, of each pattern there that isn't plain, a line `pattern` and
-a line `reading` that says where reading it stops. Behind either a line `passed-over KEYWORD PLACE` names each keyword of
+`places` or `kind`), a line `rule` and a line `change`, and what stands at its place: `found` and `value` of a malformed
+keyword, `found` of what a reference that names no definition leads to, the `type` of a schema whose value isn't read, and
+of each pattern that isn't plain `pattern` and `reading`, which says where reading it stops. Behind either a line `passed-over KEYWORD PLACE` names each keyword of
 the schema that isn't read though it binds values or names schemas in some draft of JSON Schema. docs/FAULTS.md and
 docs/NOTES.md say more of each fault and each note.
 
@@ -253,18 +254,21 @@ fn hint(word: &str, status: u8) -> Option<&'static str> {
             "typify: the input isn't one JSON text: it may end early, begin with a byte order mark, be nested more than 127 deep, or be longer than 16,777,216 bytes; `typify explain 64` names the line",
         ),
         3 if word == "covers" => Some(
-            "typify: the input isn't one JSON object with exactly the members `old` and `new`: it may be a bare schema, lack a member or have another, end early, begin with a byte order mark, be nested more than 127 deep, or be longer than 16,777,216 bytes",
+            "typify: the input isn't one JSON object with exactly the members `old` and `new`: it may be a bare schema, lack a member or have another, end early, begin with a byte order mark, be nested more than 127 deep, or be longer than 16,777,216 bytes; `typify explain 64` reads one of the two alone, and names the line of what isn't JSON",
         ),
         3 if word == "lines" => Some(
-            "typify: the first line isn't one JSON text: there may be none, it may be a part of one, begin with a byte order mark, be nested more than 127 deep, or be longer than 1,048,576 bytes",
+            "typify: the first line isn't one JSON text: there may be none, it may be a part of one, begin with a byte order mark, be nested more than 127 deep, or be longer than 1,048,576 bytes; `typify explain 64` reads a schema alone, and names the line of what isn't JSON",
         ),
         3 => Some(
             "typify: the input isn't one JSON object with exactly the members `schema` and `values`, a list: it may be a bare schema, lack a member or have another, end early, begin with a byte order mark, be nested more than 127 deep, or be longer than 16,777,216 bytes; `typify explain 64` reads a bare schema, and names the line of what isn't JSON",
         ),
         4 => Some("typify: reading standard input failed"),
         5 => Some("typify: writing to standard output failed"),
+        6 if word == "explain" => Some(
+            "typify: memory ran out, or more than 300 schemas stand in one another, or more than 20,000,000 parts would be merged, or a default is more than 1,000 levels deep",
+        ),
         6 => Some(
-            "typify: memory ran out, or more than 300 schemas stand in one another, or more than 20,000,000 parts would be merged, or a value or a default is more than 1,000 levels deep, or an example is made of more than 1,000,000 types",
+            "typify: memory ran out, or more than 300 schemas stand in one another, or more than 20,000,000 parts would be merged, or a value or a default is more than 1,000 levels deep, or an example is made of more than 1,000,000 types; `typify explain 64` reads the schema alone: where that ends so too, it is the schema, and docs/FAULTS.md has what to change",
         ),
         7 => Some("typify: more than 4,294,967,296 bytes came"),
         _ => None,
